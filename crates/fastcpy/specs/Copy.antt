@@ -1,0 +1,25 @@
+-- Document 01, port step 2 and refusal 9: a copy between equal lengths; unequal lengths are refused, and nothing is written then.
+use Prim.Native.Nat.{ℕ}
+use mathlib.Core.Bool.{cond}
+use mathlib.Core.List.{List, []}
+use lib.Dec.{eqb}
+use lib.ListN.{length}
+use Rattle.limits.specs.Refusals.{Said, answered, refused}
+use Rattle.fastcpy.specs.declared.Copied.{Copied}
+use Rattle.fastcpy.specs.declared.Copied.the-variants.{Done, Refused}
+
+-- what a copy answers, and what the destination holds afterwards
+pub record Out : Type 0 where
+  pub answer : Copied
+  pub dst : List ℕ
+
+abbrev pub out : Copied → List ℕ → Out
+out a d = record { answer = a; dst = d }
+
+unfoldable pub copyOf : List ℕ → List ℕ → Out
+copyOf src dst = cond (eqb (length src) (length dst)) (out Done src) (out (Refused 9) dst)
+
+-- the answer in document 01's terms
+abbrev pub saidCopied : Copied → Said
+saidCopied Done = answered []
+saidCopied (Refused n) = refused n []

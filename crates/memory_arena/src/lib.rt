@@ -1,0 +1,223 @@
+// A memory arena over lent pages: addresses, allocation, and bare reads and writes.
+//
+// It promises, for any state, any lent length and any address: an answer or a refusal by document 01's numbers, as specs/Calls.antt
+// says, no byte touched outside a good span, and nothing changed by a refusal. specs/Address.antt and specs/Pages.antt have the rules
+// over the page size, proofs/Laws.antt what follows from them. The pages of a lent slice lie one behind the other, so an address is a
+// place in the slice, and only the test for good spans needs its page. It uses limits, numbers, spans and fastcpy.
+ghost use mathlib.Core.Path.{_≡_};
+ghost use mathlib.Core.Bool.{true};
+ghost use mathlib.Core.List.{[], _∷_};
+ghost use Prim.Native.Nat.{_+_, _≤_, _<_, _%_, _^_};
+ghost use lib.ListN.{length};
+ghost use Rattle.limits.specs.Limits.{pageSize, arenaLimit};
+ghost use Rattle.limits.specs.Refusals.{listed};
+ghost use Rattle.numbers.specs.Wrap.{wrapAdd};
+ghost use Rattle.spans.specs.Span.{readSpan, overwrite};
+ghost use Rattle.memory_arena.specs.Address.{addressOf, pageOf, placeOf};
+ghost use Rattle.memory_arena.specs.Pages.{capacityOf, standing, goodSpan, roomFor};
+ghost use Rattle.memory_arena.specs.Calls.{sensible, reachable, allocateOf, saidAllocated, readOf, writeOf, sliceOf, out, saidTouched};
+
+// An arena's state beside its lent pages: the current page, and the bytes used there.
+pub struct Arena {
+    pub page: usize,
+    pub used: usize,
+}
+
+// What an allocation answers: an address and the state after it; no page has room; or a refusal.
+pub enum Allocated {
+    At(u32, Arena),
+    NoRoom,
+    Refused(u32),
+}
+
+// What a bare read or write answers.
+pub enum Touched {
+    Done,
+    Declined(u32),
+}
+
+// ---- addresses
+
+// Page and place put together, modulo 2^32.
+pub fn addr_new(page: u32, place: u32) -> u32
+    ensures { λ r. ⌜ r ≡ addressOf pageSize page place % 2 ^ 32 ⌝ }
+{
+    (((page as u64) * 1048576 + (place as u64)) % 4294967296) as u32
+}
+
+pub fn page_id(addr: u32) -> usize
+    ensures { λ r. ⌜ r ≡ pageOf pageSize addr ⌝ }
+{
+    (addr >> limits::PAGE_SHIFT) as usize
+}
+
+pub fn page_local_addr(addr: u32) -> usize
+    ensures { λ r. ⌜ r ≡ placeOf pageSize addr ⌝ }
+{
+    (addr & limits::PAGE_MASK) as usize
+}
+
+// An address and an offset, which wraps.
+pub fn offset(addr: u32, n: u32) -> u32
+    ensures { λ r. ⌜ r ≡ wrapAdd addr n ⌝ }
+{
+    numbers::wrapping_add(addr, n)
+}
+
+// ---- pages
+
+fn least(a: usize, b: usize) -> usize
+    ensures { λ r. ⌜ r ≡ Prim.Native.Nat.min a b ⌝ }
+{
+    if a < b {
+        return a;
+    }
+    b
+}
+
+// How many bytes a page of a lent memory holds.
+pub fn page_capacity(len: usize, page: usize) -> usize
+    ensures { λ r. ⌜ r ≡ capacityOf pageSize len page ⌝ }
+{
+    if len / limits::PAGE_SIZE < page {
+        return 0;
+    }
+    least(limits::PAGE_SIZE, len - page * limits::PAGE_SIZE)
+}
+
+// Whether an arena state is one of a lent memory of that length.
+pub fn is_sensible(arena: Arena, len: usize) -> bool
+    ensures { λ r. ⌜ r ≡ sensible arena len ⌝ }
+{
+    let page = arena.page;
+    let used = arena.used;
+    if len == 0 {
+        return false;
+    }
+    let last = (len - 1) / limits::PAGE_SIZE;
+    let capacity = page_capacity(len, page);
+    (len <= limits::ARENA_LIMIT) & (page <= last) & (used <= capacity)
+}
+
+// Whether n bytes from an address lie within the used bytes of one page.
+pub fn is_good_span(arena: Arena, at: u32, n: usize) -> bool
+    ensures { λ r. ⌜ r ≡ goodSpan pageSize arena at n ⌝ }
+{
+    let page = page_id(at);
+    let place = page_local_addr(at);
+    if arena.page < page {
+        return false;
+    }
+    let used = used_on(arena, page);
+    if used < place {
+        return false;
+    }
+    n <= used - place
+}
+
+fn used_on(arena: Arena, page: usize) -> usize
+    ensures { λ r. ⌜ r ≡ Rattle.memory_arena.specs.Pages.usedOn pageSize arena page ⌝ }
+{
+    if page == arena.page {
+        return arena.used;
+    }
+    limits::PAGE_SIZE
+}
+
+// Whether a span of the lent pages may be touched.
+fn is_reachable(arena: Arena, len: usize, at: u32, n: usize) -> bool
+    ensures { λ r. ⌜ r ≡ reachable arena len at n ⌝ }
+{
+    if is_sensible(arena, len) {
+        return is_good_span(arena, at, n);
+    }
+    false
+}
+
+// ---- allocation
+
+// Room for n bytes, which are at most a page's, in an arena whose state is sensible.
+pub fn find_room(arena: Arena, len: usize, n: usize) -> Allocated
+    requires { ⌜ (0 < n) × ((n ≤ pageSize) × (sensible arena len ≡ true)) ⌝ }
+    ensures { λ r. ⌜ r ≡ roomFor pageSize arena len n ⌝ }
+{
+    let page = arena.page;
+    let used = arena.used;
+    if used + n <= page_capacity(len, page) {
+        let at = page * limits::PAGE_SIZE + used;
+        return Allocated::At(
+            at as u32,
+            Arena {
+                page,
+                used: used + n,
+            },
+        );
+    }
+    let next = page + 1;
+    if n <= page_capacity(len, next) {
+        let at = next * limits::PAGE_SIZE;
+        return Allocated::At(
+            at as u32,
+            Arena {
+                page: next,
+                used: n,
+            },
+        );
+    }
+    Allocated::NoRoom
+}
+
+// Allocates n bytes: an address and the state after it.
+pub fn allocate_space(arena: Arena, len: usize, n: usize) -> Allocated
+    ensures { λ r. ⌜ (r ≡ allocateOf arena len n) × (listed (9 ∷ 10 ∷ []) (saidAllocated r .number) ≡ true) ⌝ }
+{
+    if n == 0 {
+        return Allocated::Refused(9);
+    }
+    if limits::PAGE_SIZE < n {
+        return Allocated::Refused(9);
+    }
+    if is_sensible(arena, len) {
+        return find_room(arena, len, n);
+    }
+    Allocated::Refused(10)
+}
+
+// ---- bare reads and writes
+
+// Reads as many bytes as the output has, from an address.
+pub fn read(arena: Arena, pages: &[u8], at: u32, output: &mut [u8]) -> Touched
+    ensures { λ r. ⌜ (out r (now (output .exit)) ≡ readOf arena (now (pages .entry)) at (now (output .entry))) × (listed (10 ∷ []) (saidTouched r .number) ≡ true) ⌝ }
+{
+    let n = output.len();
+    if is_reachable(arena, pages.len(), at, n) {
+        let from = at as usize;
+        let to = from + n;
+        fastcpy::copy_in(output, 0, &pages[from..to]);
+        return Touched::Done;
+    }
+    Touched::Declined(10)
+}
+
+// Writes bytes at an address.
+pub fn write_at(arena: Arena, pages: &mut [u8], at: u32, bytes: &[u8]) -> Touched
+    ensures { λ r. ⌜ (out r (now (pages .exit)) ≡ writeOf arena (now (pages .entry)) at (now (bytes .entry))) × (listed (10 ∷ []) (saidTouched r .number) ≡ true) ⌝ }
+{
+    if is_reachable(arena, pages.len(), at, bytes.len()) {
+        fastcpy::copy_in(pages, at as usize, bytes);
+        return Touched::Done;
+    }
+    Touched::Declined(10)
+}
+
+// A good span as a part of the lent pages; the empty part otherwise.
+pub fn slice(arena: Arena, pages: &[u8], at: u32, n: usize) -> &[u8]
+    ensures { λ r. ⌜ now r ≡ sliceOf arena (now (pages .entry)) at n ⌝ }
+{
+    if is_reachable(arena, pages.len(), at, n) {
+        let from = at as usize;
+        let to = from + n;
+        return &pages[from..to];
+    }
+    &pages[0..0]
+}

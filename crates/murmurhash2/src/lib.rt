@@ -1,0 +1,76 @@
+// MurmurHash2, 32 bits, the hash of a lane's name.
+//
+// It promises that for every seed and every key the answer is the public algorithm's, as specs/Murmur.antt writes it down from
+// document 01. It uses numbers and spans.
+ghost use mathlib.Core.Path.{_≡_};
+ghost use mathlib.Core.List.{[], _∷_};
+ghost use Prim.Native.Nat.{_<_};
+ghost use lib.ListN.{length};
+ghost use Rattle.numbers.specs.LittleEndian.{leNumber};
+ghost use Rattle.murmurhash2.specs.Murmur.{left, mixed, turned, taken, ended, murmurHash2};
+
+const M: u32 = 0x5BD1E995;
+
+fn mix(k: u32) -> u32
+    ensures { λ r. ⌜ r ≡ mixed k ⌝ }
+{
+    let a = numbers::wrapping_mul(k, M);
+    let b = a ^ (a >> 24);
+    numbers::wrapping_mul(b, M)
+}
+
+fn turn(h: u32, k: u32) -> u32
+    ensures { λ r. ⌜ r ≡ turned h k ⌝ }
+{
+    numbers::wrapping_mul(h, M) ^ mix(k)
+}
+
+fn end(h: u32) -> u32
+    ensures { λ r. ⌜ r ≡ ended h ⌝ }
+{
+    let a = numbers::wrapping_mul(h ^ (h >> 13), M);
+    a ^ (a >> 15)
+}
+
+// One to three bytes as a little-endian number, the missing ones 0.
+fn le_upto_3(a: u8, b: u8, c: u8) -> u32
+    ensures { λ r. ⌜ r ≡ leNumber (a ∷ b ∷ c ∷ []) ⌝ }
+{
+    (a as u32) + 256 * ((b as u32) + 256 * (c as u32))
+}
+
+// The bytes behind the last whole four.
+fn last(s: &[u8], h: u32) -> u32
+    requires { ⌜ length (now s) < 4 ⌝ }
+    ensures { λ r. ⌜ r ≡ taken h (now (s .entry)) ⌝ }
+{
+    let n = s.len();
+    if n == 0 {
+        return h;
+    }
+    if n == 1 {
+        let k = le_upto_3(s[0], 0, 0);
+        return numbers::wrapping_mul(h ^ k, M);
+    }
+    if n == 2 {
+        let k = le_upto_3(s[0], s[1], 0);
+        return numbers::wrapping_mul(h ^ k, M);
+    }
+    let k = le_upto_3(s[0], s[1], s[2]);
+    numbers::wrapping_mul(h ^ k, M)
+}
+
+// The hash of a key.
+pub fn murmurhash2(key: &[u8], seed: u32) -> u32
+    ensures { λ r. ⌜ r ≡ murmurHash2 seed (now (key .entry)) ⌝ }
+{
+    let n = key.len();
+    let mut h = seed ^ ((n % 4294967296) as u32);
+    let mut i = 0;
+    while 4 <= n - i {
+        let k = spans::get_u32(key, i);
+        h = turn(h, k);
+        i += 4;
+    }
+    end(last(&key[i..], h))
+}

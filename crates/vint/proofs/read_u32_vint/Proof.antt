@@ -1,0 +1,91 @@
+-- `vint::read_u32_vint` meets its contract. The loop's invariant, `Reading`: what is taken in all is the sum so far with the unit
+-- times what is taken from here, and the unit is 128 to the bytes so far. The measure is how many more may be taken. Assumes nothing.
+use Prim.Native.Nat.{_-_, _^_, _≤_, _<_}
+use mathlib.Core.Path.{refl, _∙_}
+use native.Mathlib.Numerals.{add-one}
+use native.Mathlib.Omega.{arith}
+use lib.ListN.{length}
+use borrow.Author.Needs.{needs}
+use Rattle.vint.specs.Vint.{vintLimit, ended, unended, answerOf}
+use Rattle.vint.proofs.Laws.{goes-on, stops, Reading, reading-starts, unit-most, reading-on, reading-last, reading-stops, answers}
+use Rattle.vint.proofs.read_u32_vint.Statement.{statement}
+use Rattle.vint.proofs.read_u32_vint.Tie as tie
+
+abbrev Inv-loop : tie.InvT-loop
+Inv-loop bytes sum₀ unit₀ at₀ sum unit at = Reading vintLimit bytes sum unit at
+
+abbrev μ-loop : tie.MeasureT-loop
+μ-loop bytes sum₀ unit₀ at₀ sum unit at = vintLimit - at
+
+-- in a turn: one more byte may be taken, and is there
+going : (c : tie.In-loop Inv-loop μ-loop)
+    → (c .before .loop .at < vintLimit) × (c .before .loop .at < length (c .before .before .before .args .bytes .now))
+going c = goes-on (c .before .loop .at) vintLimit (length (c .before .before .before .args .bytes .now)) (c .loop-test .taken)
+
+-- what `plus` asks
+fits-in : (c : tie.In-loop Inv-loop μ-loop) → (c .before .loop .unit ≤ 128 ^ 4) × (c .before .loop .sum < c .before .loop .unit)
+fits-in c = (unit-most (c .before .loop .inv) (going c .0), c .before .loop .inv .small)
+
+loop-holds : tie.Need-loop-holds Inv-loop μ-loop
+loop-holds c = reading-starts vintLimit (c .before .args .bytes .now)
+
+shared-slice-read-b : tie.Need-shared-slice-read-b Inv-loop μ-loop
+shared-slice-read-b c = going (c .before) .1
+
+plus-requires : tie.Need-plus-requires Inv-loop μ-loop
+plus-requires c κs = fits-in (c .before .before)
+
+add-answered : tie.Need-add-answered Inv-loop μ-loop
+add-answered c = omega arith
+
+answered-requires : tie.Need-answered-requires Inv-loop μ-loop
+answered-requires c κs = search needs
+
+returns : tie.Need-returns Inv-loop μ-loop
+returns c =
+    let t = c .before .before .before .before in
+    answers (t .before .before .before .args .bytes .now) _ _
+    (reading-last (t .before .loop .inv) (going t .0) (going t .1) (c .before .before .if1 .taken))
+    (c .answered .ensures ∙ (λ i. answerOf (ended (c .before .plus .ensures i) (add-one (t .before .loop .at) i))))
+
+plus-requires-2 : tie.Need-plus-requires-2 Inv-loop μ-loop
+plus-requires-2 c κs = fits-in (c .before .before)
+
+mul-unit : tie.Need-mul-unit Inv-loop μ-loop
+mul-unit c = omega (arith, fits-in (c .before .before .before) .0)
+
+add-at : tie.Need-add-at Inv-loop μ-loop
+add-at c = omega arith
+
+loop-less : tie.Need-loop-less Inv-loop μ-loop
+loop-less c = omega (arith, going (c .before .before .before) .0)
+
+loop-again : tie.Need-loop-again Inv-loop μ-loop
+loop-again c =
+    let t = c .before .before .before in
+    rw (c .plus2 .ensures, add-one) (reading-on (t .before .loop .inv) (going t .0) (going t .1) (c .before .if1 .left))
+
+returns-2 : tie.Need-returns-2 Inv-loop μ-loop
+returns-2 c =
+    let l = c .before .loop in
+    let bs = c .before .before .before .args .bytes .now in
+    answers bs unended _ (reading-stops (l .inv) (stops (l .at) vintLimit (length bs) (c .loop-test .left))) refl
+
+pub read-u32-vint-spec : {M : Type 1} → statement M
+read-u32-vint-spec =
+    tie.close
+    (tie.spec
+    Inv-loop
+    μ-loop
+    loop-holds
+    shared-slice-read-b
+    plus-requires
+    add-answered
+    answered-requires
+    returns
+    plus-requires-2
+    mul-unit
+    add-at
+    loop-less
+    loop-again
+    returns-2)

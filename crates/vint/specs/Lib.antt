@@ -1,0 +1,2 @@
+pub mod Vint
+pub mod Cases

@@ -1,0 +1,89 @@
+// Vints: numbers in seven bits a byte, low group first, the top bit set on the last byte only (document 01, "Hash and vint").
+//
+// It promises that a number is written in the fewest bytes, 1 to 5, and that the reader answers the groups' sum modulo 2^32 and the
+// bytes taken, or refusal 11, for all bytes. specs/Vint.antt says what that means, and proofs/Laws.antt proves that a written number
+// reads back as itself and that no accepted form of it is shorter. It uses limits and numbers, in contracts and proofs alone.
+ghost use mathlib.Core.Path.{_≡_};
+ghost use mathlib.Core.Bool.{true};
+ghost use mathlib.Core.List.{[], _∷_};
+ghost use Prim.Native.Nat.{_+_, _*_, _%_, _^_, _≤_, _<_};
+ghost use Rattle.limits.specs.Refusals.{listed};
+ghost use Rattle.vint.specs.Vint.{vintOf, ended, answerOf, readVint, saidUnvint};
+
+// A vint by value: its bytes, zeros after them, and how many they are.
+pub struct Vint {
+    pub bytes: [u8; 5],
+    pub count: usize,
+}
+
+// A number and the bytes taken for it, or a refusal's number.
+pub enum Unvint {
+    Number(u32, usize),
+    Refused(u32),
+}
+
+// The lowest group, for a byte that isn't the last.
+fn low(n: u32) -> u8
+    ensures { λ r. ⌜ r ≡ n % 128 ⌝ }
+{
+    (n % 128) as u8
+}
+
+// The highest group, with the top bit.
+fn last(n: u32) -> u8
+    requires { ⌜ n < 128 ⌝ }
+    ensures { λ r. ⌜ r ≡ n + 128 ⌝ }
+{
+    (n + 128) as u8
+}
+
+// The vint of a number.
+pub fn serialize_vint_u32(n: u32) -> Vint
+    ensures { λ r. ⌜ r ≡ vintOf n ⌝ }
+{
+    let mut bytes = [0u8; 5];
+    let mut rest = n;
+    let mut at: usize = 0;
+    while 128 <= rest {
+        bytes[at] = low(rest);
+        rest = rest / 128;
+        at += 1;
+    }
+    bytes[at] = last(rest);
+    let count = at + 1;
+    Vint { bytes, count }
+}
+
+// The sum with one more group, which stands for that many units.
+fn plus(sum: u64, unit: u64, group: u8) -> u64
+    requires { ⌜ (unit ≤ 128 ^ 4) × (sum < unit) ⌝ }
+    ensures { λ r. ⌜ r ≡ sum + unit * group ⌝ }
+{
+    sum + unit * (group as u64)
+}
+
+// What a vint's groups' sum and the bytes taken for it answer.
+fn answered(sum: u64, taken: usize) -> Unvint
+    ensures { λ r. ⌜ r ≡ answerOf (ended sum taken) ⌝ }
+{
+    Unvint::Number((sum % 4294967296) as u32, taken)
+}
+
+// The number that bytes begin with, as a vint.
+pub fn read_u32_vint(bytes: &[u8]) -> Unvint
+    ensures { λ r. ⌜ (r ≡ readVint (now (bytes .entry))) × (listed (11 ∷ []) (saidUnvint r .number) ≡ true) ⌝ }
+{
+    let mut sum: u64 = 0;
+    let mut unit: u64 = 1;
+    let mut at: usize = 0;
+    while (at < 5) & (at < bytes.len()) {
+        let b = bytes[at];
+        if 128 <= b {
+            return answered(plus(sum, unit, b - 128), at + 1);
+        }
+        sum = plus(sum, unit, b);
+        unit = unit * 128;
+        at += 1;
+    }
+    Unvint::Refused(11)
+}
