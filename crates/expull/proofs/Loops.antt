@@ -1,0 +1,321 @@
+-- What holds while the code's loops run, and what a turn of each does: the dry run, the append, the walk, the reading. Assumes nothing.
+use Prim.Native.Nat.{ℕ, _+_, _-_, _≤_, _<_, min}
+use mathlib.Core.Path.{_≡_, refl, sym, ap, _∙_, subst}
+use mathlib.Core.Bool.{Bool, true, false, false≢true}
+use mathlib.Core.Option.{Option, none, some}
+use mathlib.Core.List.{List, [], _∷_, _++_}
+use native.Mathlib.Numerals.{add-one}
+use native.Mathlib.Omega.{arith}
+use lib.ListN.{length, take, drop, length-take, length-drop, take-append-drop, drop-of-length-le}
+use lib.Seq.{drop-drop}
+use borrow.Author.Tests.{eq-eqb, ne-eqb, leb-true}
+use types.Run.{OneOf, miss}
+use denote.Enum.Declared.{tagOf}
+use Rattle.memory_arena.proofs.Allocated.{the-type}
+use Rattle.limits.specs.Limits.{pageSize, arenaLimit, freshNumber, numberLimit, linkSize}
+use Rattle.numbers.specs.LittleEndian.{leNumber}
+use Rattle.spans.specs.Span.{overwrite, readSpan}
+use Rattle.spans.proofs.Laws.{length-overwrite, overwrite-append, overwrite-none}
+use Rattle.memory_arena.specs.declared.Arena.{Arena}
+use Rattle.memory_arena.specs.declared.Allocated.{Allocated}
+use Rattle.memory_arena.specs.declared.Allocated.the-variants.{At, NoRoom, Refused}
+use Rattle.memory_arena.specs.Pages.{roomFor, goodSpan}
+use Rattle.memory_arena.specs.Calls.{sensible}
+use Rattle.memory_arena.proofs.Laws.{standing-facts, room-facts, sensible-facts}
+use Rattle.expull.specs.declared.Header.{Header}
+use Rattle.expull.specs.Header.{blockSize, soundHeader, blockCount, fullBytes, laneLength}
+use Rattle.expull.specs.Append.{Writing, nextWide, withBlock, onRoom, ready, filled, andThen, appended, onRoomDry, planned, planOf, isSome}
+use Rattle.expull.proofs.Laws.Header.{sound-facts, full-more, length-parts}
+use Rattle.numbers.proofs.Tests.{both-true}
+use Rattle.expull.specs.declared.Walked.the-variants.{To, Stopped}
+use Rattle.expull.specs.Blocks.{blockPlace, goodBlocks, fullBlocks, laneBytes, walkOf}
+use Rattle.expull.proofs.Laws.Append.{room-sensible, never, ready-taken, appended-chunk, appended-ready, plan-turn, plan-end, arenaOf, plan-decides, plan-fits, endOf, tail-in, Reached, reached-then, Readied, ready-reached, filled-reached}
+use Rattle.expull.proofs.Laws.Blocks.{goodBlock, blocks-more, place-more, blocks-fewer, block-good, bad-block-stays, block-in, full-within, length-full, lastOf}
+
+-- ---- parts of a slice, as code lends them
+
+pub length-part : (m : List ℕ) (p n : ℕ) → p + n ≤ length m → length (take (p + n - p) (drop p m)) ≡ n
+length-part m p n h = simp (length-take, length-drop) (omega arith)
+
+part-span : (m : List ℕ) (p n : ℕ) → take (p + n - p) (drop p m) ≡ readSpan p n m
+unfolding readSpan
+part-span m p n = let e : p + n - p ≡ n = omega arith in rw e
+
+-- ---- the dry run's loop
+
+-- an answer that code has told apart from an address is none that a plan goes on with
+pub no-room : (r : Allocated) (k : Arena → Option Arena) → OneOf (1 ∷ 2 ∷ []) (tagOf the-type r) → onRoomDry r k ≡ none
+no-room (At at a) k o = absurd (miss (1 ∷ 2 ∷ []) 0 tt o)
+no-room NoRoom k o = refl
+no-room (Refused n) k o = refl
+
+-- what holds while the dry run takes blocks: the plan is that of the rest, and the block number is small, since each block moves the used end on
+pub record Planning (len left₀ number₀ : ℕ) (a₀ : Arena) (left number : ℕ) (a : Arena) : Type 0 where
+  pub rest : planned left₀ len a₀ number₀ left₀ ≡ planned left len a number left
+  pub sense : sensible a len ≡ true
+  pub few : number ≤ numberLimit + endOf a
+
+-- the plan from the bytes that wait
+pub plan-left : (len : ℕ) (a : Arena) (h : Header) (n l : ℕ) → l ≡ n - h .remaining → planOf len a h n ≡ planned l len a (h .number) l
+unfolding planOf
+plan-left len a h n l e = rw e
+
+-- a block taken leaves the arena sensible, and moves its end on
+plan-room : (len : ℕ) (a b : Arena) (number at : ℕ) → sensible a len ≡ true → number ≤ numberLimit + endOf a
+    → roomFor pageSize a len (blockSize (number + 1) + linkSize) ≡ At at b → (sensible b len ≡ true) × (number + 1 ≤ numberLimit + endOf b)
+plan-room len a b number at e h f =
+    let s = sensible-facts a len e in
+    let n = blockSize (number + 1) + linkSize in
+    let z : 0 < n = omega arith in
+    let r = room-facts pageSize a len n at b z (s .stands) f in
+    (room-sensible a len n at b z e f, omega (arith, r .above, r .end))
+
+-- the used end is within the lent memory, so a block number stays far below 2^32
+plan-few : (a : Arena) (len number : ℕ) → sensible a len ≡ true → number ≤ numberLimit + endOf a → number ≤ numberLimit + arenaLimit
+plan-few a len number e h =
+    let s = sensible-facts a len e in
+    let l : len ≤ arenaLimit = leb-true _ _ (s .short) in
+    omega (arith, standing-facts pageSize a len (s .stands) .in-memory)
+
+module _ {len l₀ n₀ : ℕ} {a₀ : Arena} {l n : ℕ} {a : Arena} (p : Planning len l₀ n₀ a₀ l n a) where
+  pub planning-few : n ≤ numberLimit + arenaLimit
+  planning-few = plan-few a len n (p .sense) (p .few)
+
+  pub planning-end : l ≡ 0 → planned l₀ len a₀ n₀ l₀ ≡ some a
+  planning-end e = p .rest ∙ rw e (plan-end len a n)
+
+  -- a turn, by the size and the room that code found
+  pub planning-turn : {size : ℕ} {r : Allocated} → 0 < l → size ≡ blockSize (n + 1) → r ≡ roomFor pageSize a len (size + linkSize)
+      → planned l₀ len a₀ n₀ l₀ ≡ onRoomDry r (λ c. planned (l - size) len c (n + 1) (l - size))
+  planning-turn z e f = p .rest ∙ plan-turn len a n l z ∙ rw (f, e)
+
+  pub planning-next : {size : ℕ} {r : Allocated} {at : ℕ} {b : Arena} {left : ℕ} → 0 < l → size ≡ blockSize (n + 1)
+      → r ≡ roomFor pageSize a len (size + linkSize) → r ≡ At at b → left ≡ l - size → Planning len l₀ n₀ a₀ left (n + 1) b
+  planning-next {at = at} {b = b} z e f g q =
+      let k = plan-room len a b n at (p .sense) (p .few) (rw (← e) (sym f ∙ g)) in
+      record { rest = planning-turn z e f ∙ rw (g, q); sense = k .0; few = k .1 }
+
+-- ---- the append's steps, as code makes them
+
+-- where a byte waits, a plan that has room names it
+pub waiting-room : (len : ℕ) (a : Arena) (h : Header) (r : Allocated) → h .remaining ≡ 0 → r ≡ roomFor pageSize a len (nextWide h)
+    → isSome (planOf len a h 1) ≡ true → OneOf (1 ∷ 2 ∷ []) (tagOf the-type r) → ⊥
+waiting-room len a h r z e p o =
+    let q : planOf len a h 1 ≡ none =
+    plan-left len a h 1 1 (omega arith) ∙ plan-turn len a (h .number) 1 (omega arith) ∙ rw (← e) (no-room r _ o) in
+    false≢true (sym (ap isSome q) ∙ p)
+
+-- a block taken, where nothing remains
+pub block-taken : (w : Writing) {r : Allocated} {at : ℕ} {b : Arena} → w .header .remaining ≡ 0
+    → r ≡ roomFor pageSize (w .arena) (length (w .memory)) (nextWide (w .header)) → r ≡ At at b → ready w ≡ some (withBlock at b w)
+block-taken w z e f = ready-taken w z ∙ ap (λ (x : Allocated). onRoom x w) (sym e ∙ f)
+
+-- bytes that fit the last block, which lies in the memory
+pub record Chunk (v : Writing) (n : ℕ) : Type 0 where
+  pub remains : n ≤ v .header .remaining
+  pub in-memory : v .header .tail + n ≤ length (v .memory)
+  pub short : length (v .memory) ≤ arenaLimit
+
+pub chunk-fits : {w v : Writing} (n : ℕ) → Readied w v → n ≤ v .header .remaining → Chunk v n
+chunk-fits {v = v} n k h =
+    let j = k .reached .working in
+    let z = k .room in
+    let f : (v .header .number ≡ freshNumber → ⊥) = λ e. let q = ap (λ (x : Header). x .remaining) (j .shape .without e) in omega arith in
+    record {
+      remains = h;
+      in-memory = omega (arith, tail-in (v .arena) (length (v .memory)) (v .header) (j .sense) (j .tail) f);
+      short = leb-true _ _ (sensible-facts (v .arena) (length (v .memory)) (j .sense) .short);
+    }
+
+-- ---- the append's loop
+
+-- what holds while an append writes: the outcome is that of the rest
+pub record Extending (bs : List ℕ) (w₀ w : Writing) (i : ℕ) : Type 0 where
+  pub at-most : i ≤ length bs
+  pub reached : Reached w₀ w
+  pub rest : appended bs w₀ ≡ appended (drop i bs) w
+
+module _ {bs : List ℕ} {w₀ w : Writing} {i : ℕ} (k : Extending bs w₀ w i) where
+  -- a block number on the way, from a sound header
+  pub extending-few : w₀ .header .number ≤ numberLimit → w .header .number ≤ numberLimit + arenaLimit
+  extending-few l =
+      plan-few (w .arena) (length (w .memory)) (w .header .number) (k .reached .working .sense) (omega (arith, k .reached .onward .end-up))
+
+  -- where a byte waits, the plan has room for one more
+  pub extending-room : i < length bs → isSome (planOf (length (w₀ .memory)) (w₀ .arena) (w₀ .header) (length bs)) ≡ true
+      → isSome (planOf (length (w .memory)) (w .arena) (w .header) 1) ≡ true
+  unfolding appended
+  extending-room h p =
+      let f = plan-fits bs w₀ p in
+      go (ready w) refl (sym (appended-ready (drop i bs) w (simp length-drop (omega arith))) ∙ sym (k .rest) ∙ f .whole)
+    where
+      go : (o : Option Writing) → ready w ≡ o → {v : Writing} → andThen o (appended (drop i bs)) ≡ some v
+          → isSome (planOf (length (w .memory)) (w .arena) (w .header) 1) ≡ true
+      go none q e = never _ e
+      go (some u) q e =
+          sym (ap isSome (plan-decides (0 ∷ []) w)) ∙ ap (λ (o : Option Writing). isSome (arenaOf (andThen o (λ v. some (filled (0 ∷ []) v))))) q
+
+  pub extending-ready : {v : Writing} → some v ≡ ready w → Readied w v
+  extending-ready {v} e = ready-reached w v (k .reached .working) (sym e)
+
+  pub extending-next : {v u : Writing} {n : ℕ} → i < length bs → some v ≡ ready w → n ≡ min (v .header .remaining) (length bs - i)
+      → u ≡ filled (take (i + n - i) (drop i bs)) v → Extending bs w₀ u (i + n)
+  extending-next {v} {u} {n} h e q f =
+      let r = extending-ready e in
+      let d = drop i bs in
+      let s : i + n - i ≡ n = omega arith in
+      let l : length (take n d) ≡ n = simp (length-take, length-drop) (omega arith) in
+      let x = filled (take n d) v in
+      let g : u ≡ x = f ∙ rw s in
+      let chunk : Reached v x = filled-reached (take n d) v (r .reached .working) (r .room) (omega arith) in
+      record {
+        at-most = omega arith;
+        reached = subst (Reached w₀) (sym g) (reached-then w₀ w x (k .reached) (reached-then w v x (r .reached) chunk));
+        rest =
+            k .rest
+            ∙ appended-ready d w (simp length-drop (omega arith))
+            ∙ ap (λ (o : Option Writing). andThen o (appended d)) (sym e)
+            ∙ ap (λ (y : List ℕ). appended y v) (sym (take-append-drop n d))
+            ∙ appended-chunk (take n d) (drop n d) v (omega arith)
+            ∙ (λ j. appended (drop-drop n i bs j) (sym g j));
+      }
+
+  pub extending-end : length bs ≤ i → some w ≡ appended bs w₀
+  unfolding appended
+  extending-end h = sym (k .rest ∙ rw (drop-of-length-le bs {i = i} h))
+
+-- ---- the walk's loop
+
+-- what holds while blocks are met: the place is block i's, and those before it are good
+pub record Walking (a : Arena) (m : List ℕ) (head n place i : ℕ) : Type 0 where
+  pub at-most : i ≤ n
+  pub here : place ≡ blockPlace m head i
+  pub good : goodBlocks a m head i ≡ true
+
+module _ {a : Arena} {m : List ℕ} {head n place i : ℕ} (w : Walking a m head n place i) where
+  -- the test of a turn, as code makes it
+  pub walking-test : {size : ℕ} {t u : Bool} → size ≡ blockSize (i + 3) → t ≡ goodSpan pageSize a place (size + linkSize) → t ≡ u → goodBlock a m head i ≡ u
+  walking-test e f g = sym (f ∙ rw (w .here, e)) ∙ g
+
+  pub walking-in : {size : ℕ} → sensible a (length m) ≡ true → size ≡ blockSize (i + 3) → goodBlock a m head i ≡ true
+      → place + (size + linkSize) ≤ length m
+  walking-in s e g = rw (w .here, e) (block-in a m head i s g)
+
+  pub walking-next : {size next : ℕ} → i < n → size ≡ blockSize (i + 3) → goodBlock a m head i ≡ true
+      → next ≡ leNumber (readSpan (place + size) linkSize m) → Walking a m head n next (i + 1)
+  walking-next h e g f = record {
+    at-most = omega arith;
+    here = f ∙ rw (w .here, e, add-one i) (sym (place-more m head i));
+    good = rw (add-one i) (blocks-more a m head i ∙ both-true _ _ (w .good) g);
+  }
+
+  pub walking-stop : i < n → goodBlock a m head i ≡ false → walkOf a m head n ≡ Stopped
+  unfolding walkOf
+  walking-stop h g = rw (bad-block-stays a m head i n h g)
+
+  pub walking-end : n ≤ i → To place ≡ walkOf a m head n
+  unfolding walkOf
+  walking-end h =
+      let e : i ≡ n = omega (arith, w .at-most) in
+      rw (← e, w .good) (ap To (w .here))
+
+-- ---- the reading's loop
+
+-- what a reading of a list with blocks may rely on
+pub record Readable (a : Arena) (m : List ℕ) (h : Header) (room : ℕ) : Type 0 where
+  pub sense : sensible a (length m) ≡ true
+  pub sound : soundHeader h 0 ≡ true
+  pub blocks : goodBlocks a m (h .head) (blockCount h) ≡ true
+  pub some-blocks : h .number ≡ freshNumber → ⊥
+  pub space : laneLength h ≤ room
+
+-- what holds while full blocks are copied: the first i of them stand at the front of the output
+pub record Reading (m : List ℕ) (h : Header) (output₀ output : List ℕ) (place at i : ℕ) : Type 0 where
+  pub at-most : i ≤ lastOf h
+  pub here : place ≡ blockPlace m (h .head) i
+  pub index : at ≡ fullBytes i
+  pub copied : output ≡ overwrite 0 (fullBlocks m (h .head) i) output₀
+
+-- a list without blocks has nothing to read
+pub reading-none : (m : List ℕ) (h : Header) (output : List ℕ) → h .number ≡ freshNumber → output ≡ overwrite 0 (laneBytes m h) output
+unfolding laneBytes
+reading-none m h output e = rw (eq-eqb (h .number) freshNumber e) (sym (overwrite-none 0 output))
+
+pub reading-begun : (m : List ℕ) (h : Header) (output : List ℕ) → Reading m h output output (h .head) 0 0
+unfolding blockPlace fullBytes fullBlocks
+reading-begun m h output = record { at-most = omega arith; here = refl; index = refl; copied = sym (overwrite-none 0 output) }
+
+pub reading-length : {m : List ℕ} {h : Header} {output₀ output : List ℕ} {place at i : ℕ} → Reading m h output₀ output place at i → length output ≡ length output₀
+reading-length {m} {h} {output₀} {i = i} r = ap length (r .copied) ∙ length-overwrite 0 (fullBlocks m (h .head) i) output₀
+
+-- so many bytes from a place lie in the memory, and on from an index in the output
+pub record Piece (m output : List ℕ) (place at n : ℕ) : Type 0 where
+  pub in-memory : place + n ≤ length m
+  pub in-output : at + n ≤ length output
+
+module _ {a : Arena} {m : List ℕ} {h : Header} {output₀ output : List ℕ} {place at i : ℕ}
+    (k : Readable a m h (length output₀)) (r : Reading m h output₀ output place at i) where
+  -- the last block's number
+  last-number : lastOf h + 3 ≡ h .number
+  last-number = let n = k .some-blocks in omega (arith, n, sound-facts h 0 (k .sound) .shape .from)
+
+  -- block i lies in the memory, with its link
+  reading-in : place + (blockSize (i + 3) + linkSize) ≤ length m
+  reading-in =
+      rw (r .here)
+      (block-in a m (h .head) i (k .sense) (block-good a m (h .head) i (blockCount h) (omega (arith, last-number, r .at-most)) (k .blocks)))
+
+  -- bytes on from what was copied
+  reading-on : (bs : List ℕ) → overwrite at bs output ≡ overwrite 0 (fullBlocks m (h .head) i ++ bs) output₀
+  reading-on bs =
+      let good = blocks-fewer a m (h .head) i (blockCount h) (omega (arith, r .at-most)) (k .blocks) in
+      let l : 0 + length (fullBlocks m (h .head) i) ≡ at = omega (arith, r .index, length-full a m (h .head) i (k .sense) good) in
+      rw (r .copied) (sym (overwrite-append 0 (fullBlocks m (h .head) i) bs output₀ ∙ rw l))
+
+  -- a full block: its number is at most the list's, it lies in the memory with its link, and its bytes fit the output
+  pub reading-piece : {size : ℕ} → i < lastOf h → size ≡ blockSize (i + 3)
+      → (i + 3 ≤ h .number) × ((place + (size + linkSize) ≤ length m) × Piece m output place at size)
+  reading-piece l e =
+      let n = last-number in
+      let j = reading-in in (
+        omega arith,
+        (
+          rw e j,
+          record {
+            in-memory = omega arith;
+            in-output = omega (arith, e, r .index, full-within i (lastOf h) l, length-parts h (k .some-blocks), k .space, reading-length r);
+          },
+        ),
+      )
+
+  pub reading-next : {size next : ℕ} {output′ : List ℕ} → i < lastOf h → size ≡ blockSize (i + 3)
+      → output′ ≡ overwrite at (take (place + size - place) (drop place m)) output → next ≡ leNumber (readSpan (place + size) linkSize m)
+      → Reading m h output₀ output′ next (at + size) (i + 1)
+  unfolding fullBlocks
+  reading-next {size = size} l e f g = record {
+    at-most = omega arith;
+    here = g ∙ rw (r .here, e, add-one i) (sym (place-more m (h .head) i));
+    index = rw (add-one i) (omega (arith, e, r .index, full-more i));
+    copied =
+        f ∙ ap (λ (bs : List ℕ). overwrite at bs output) (part-span m place size)
+        ∙ reading-on (readSpan place size m)
+        ∙ rw (r .here, e, add-one i);
+  }
+
+  -- the last block, as far as it is written
+  pub reading-last : {n : ℕ} → lastOf h ≤ i → n ≡ blockSize (h .number) - h .remaining → Piece m output place at n
+  reading-last l e =
+      let b : i + 3 ≡ h .number = omega (arith, last-number, r .at-most) in
+      let c : i ≡ lastOf h = omega (arith, r .at-most) in
+      let j = rw b at reading-in in
+      let f : at ≡ fullBytes (lastOf h) = r .index ∙ ap fullBytes c in
+      record { in-memory = omega arith; in-output = omega (arith, length-parts h (k .some-blocks), k .space, reading-length r) }
+
+  pub reading-end : {n : ℕ} {output′ : List ℕ} → lastOf h ≤ i → n ≡ blockSize (h .number) - h .remaining
+      → output′ ≡ overwrite at (take (place + n - place) (drop place m)) output → output′ ≡ overwrite 0 (laneBytes m h) output₀
+  unfolding laneBytes
+  reading-end {n = n} l e f =
+      let c : i ≡ lastOf h = omega (arith, r .at-most) in
+      f ∙ ap (λ (bs : List ℕ). overwrite at bs output) (part-span m place n)
+      ∙ reading-on (readSpan place n m)
+      ∙ rw (ne-eqb (h .number) freshNumber (k .some-blocks), r .here, e, c)

@@ -1,0 +1,4 @@
+pub mod Header
+pub mod Append
+pub mod Blocks
+pub mod Cases

@@ -1,0 +1,134 @@
+// The dry run, which decides whether an append's blocks fit, and the append.
+use crate::Extended;
+use crate::Header;
+use crate::headers;
+use memory_arena::Allocated;
+use memory_arena::Arena;
+ghost use mathlib.Core.Path.{_≡_};
+ghost use mathlib.Core.Bool.{true};
+ghost use mathlib.Core.Option.{some};
+ghost use Prim.Native.Nat.{_+_, _-_, _≤_, _<_};
+ghost use lib.ListN.{length};
+ghost use Rattle.limits.specs.Limits.{arenaLimit, freshNumber, numberLimit, linkSize};
+ghost use Rattle.memory_arena.specs.Calls.{sensible};
+ghost use Rattle.expull.specs.Header.{soundHeader};
+ghost use Rattle.expull.specs.Append.{writing, headWith, linked, ready, filled, appended, planOf, isSome, goodTail};
+
+// Whether a list's tail, with what remains and the link, is a good span; a list without blocks has none.
+pub fn is_good_tail(arena: Arena, h: Header) -> bool
+    ensures { λ r. ⌜ r ≡ goodTail arena h ⌝ }
+{
+    if h.number == crate::FIRST_BLOCK_NUM {
+        return true;
+    }
+    let n = h.remaining as usize;
+    memory_arena::is_good_span(arena, h.tail, n + crate::LINK)
+}
+
+// a less b, and 0 where b is the larger.
+fn less(a: usize, b: usize) -> usize
+    ensures { λ r. ⌜ r ≡ a - b ⌝ }
+{
+    if a < b {
+        return 0;
+    }
+    a - b
+}
+
+// The dry run: whether the blocks that an append of n bytes needs all fit.
+pub fn blocks_fit(arena: Arena, len: usize, h: Header, n: usize) -> bool
+    requires { ⌜ (sensible arena len ≡ true) × (h .number ≤ numberLimit) ⌝ }
+    ensures { λ r. ⌜ r ≡ isSome (planOf len arena h n) ⌝ }
+{
+    let mut left = less(n, h.remaining as usize);
+    let mut number = h.number;
+    let mut state = arena;
+    while 0 < left {
+        number += 1;
+        let size = headers::get_block_size(number) as usize;
+        let Allocated::At(_, after) = memory_arena::find_room(state, len, size + crate::LINK) else {
+            return false;
+        };
+        state = after;
+        left = less(left, size);
+    }
+    true
+}
+
+// A new block's address goes to the link at the old tail; a list without blocks gets it as its head. The head is given back.
+fn put_link(lists: &mut [u8], h: Header, at: u32) -> u32
+    requires { ⌜ ((h .number ≡ freshNumber → ⊥) → h .tail + linkSize ≤ length (now lists)) ⌝ }
+    ensures { λ r. ⌜ (r ≡ headWith at h) × (now (lists .exit) ≡ linked at h (now (lists .entry))) ⌝ }
+{
+    if h.number == crate::FIRST_BLOCK_NUM {
+        return at;
+    }
+    spans::put_u32(lists, h.tail as usize, at);
+    h.head
+}
+
+// Takes a block where nothing remains of the last. The plan has room for it, so the `else` is never run.
+fn ensure_capacity(lists: &mut [u8], w: Extended) -> Extended
+    requires { ⌜ (sensible (w .arena) (length (now lists)) ≡ true) × ((goodTail (w .arena) (w .header) ≡ true) × ((w .header .number ≤ numberLimit + arenaLimit) × (isSome (planOf (length (now lists)) (w .arena) (w .header) 1) ≡ true))) ⌝ }
+    ensures { λ r. ⌜ some (writing (now (lists .exit)) (r .arena) (r .header)) ≡ ready (writing (now (lists .entry)) (w .arena) (w .header)) ⌝ }
+{
+    let h = w.header;
+    let arena = w.arena;
+    if h.remaining != 0 {
+        return w;
+    }
+    let number = h.number + 1;
+    let size = headers::get_block_size(number);
+    let wide = size as usize + crate::LINK;
+    let Allocated::At(at, after) = memory_arena::find_room(arena, lists.len(), wide) else {
+        return w;
+    };
+    let head = put_link(lists, h, at);
+    Extended {
+        header: Header {
+            number,
+            head,
+            tail: at,
+            remaining: size,
+        },
+        arena: after,
+    }
+}
+
+// Writes bytes that fit the last block.
+fn put_chunk(lists: &mut [u8], w: Extended, bytes: &[u8]) -> Extended
+    requires { ⌜ (length (now bytes) ≤ w .header .remaining) × ((w .header .tail + length (now bytes) ≤ length (now lists)) × (length (now lists) ≤ arenaLimit)) ⌝ }
+    ensures { λ r. ⌜ writing (now (lists .exit)) (r .arena) (r .header) ≡ filled (now (bytes .entry)) (writing (now (lists .entry)) (w .arena) (w .header)) ⌝ }
+{
+    let h = w.header;
+    let arena = w.arena;
+    fastcpy::copy_in(lists, h.tail as usize, bytes);
+    let n = bytes.len() as u32;
+    Extended {
+        header: Header {
+            number: h.number,
+            head: h.head,
+            tail: memory_arena::offset(h.tail, n),
+            remaining: h.remaining - n,
+        },
+        arena,
+    }
+}
+
+// The append, after the dry run.
+pub fn extend_from_slice(lists: &mut [u8], arena: Arena, h: Header, bytes: &[u8]) -> Extended
+    requires { ⌜ (sensible arena (length (now lists)) ≡ true) × ((soundHeader h 0 ≡ true) × ((goodTail arena h ≡ true) × (isSome (planOf (length (now lists)) arena h (length (now bytes))) ≡ true))) ⌝ }
+    ensures { λ r. ⌜ some (writing (now (lists .exit)) (r .arena) (r .header)) ≡ appended (now (bytes .entry)) (writing (now (lists .entry)) arena h) ⌝ }
+{
+    let mut w = Extended { header: h, arena };
+    let mut i = 0;
+    while i < bytes.len() {
+        let v = ensure_capacity(lists, w);
+        let last = v.header;
+        let k = crate::least(last.remaining as usize, bytes.len() - i);
+        let e = i + k;
+        w = put_chunk(lists, v, &bytes[i..e]);
+        i = e;
+    }
+    w
+}

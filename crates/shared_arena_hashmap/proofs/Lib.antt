@@ -1,0 +1,2 @@
+-- `Laws`: of the definitions of specs/, for the proofs here and above.
+pub mod Laws

@@ -1,0 +1,4 @@
+pub mod Power
+pub mod Buckets
+pub mod Probe
+pub mod Grow

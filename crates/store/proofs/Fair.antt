@@ -1,0 +1,224 @@
+-- Of every answer: a refusal changes nothing and gives the state back equal, and its number is one that document 01 lists for that call.
+-- Assumes nothing.
+use Prim.Native.Nat.{ℕ, _+_, _-_}
+use mathlib.Core.Path.{_≡_, refl, sym, ap, _∙_}
+use mathlib.Core.Bool.{Bool, true, false, cond, not, _&&_, _||_}
+use mathlib.Core.Option.{Option, none, some}
+use mathlib.Core.List.{List, [], _∷_}
+use native.Mathlib.Omega.{arith}
+use lib.Dec.{leb, eqb}
+use lib.ListN.{length}
+use Rattle.limits.specs.Limits.{pageSize, nameLimit, recordExtra}
+use Rattle.limits.specs.Refusals.{listed}
+use Rattle.memory_arena.specs.declared.Arena.{Arena}
+use Rattle.memory_arena.specs.declared.Allocated.{Allocated}
+use Rattle.memory_arena.specs.declared.Allocated.the-variants.{At as Room·At, NoRoom, Refused as Room·Refused}
+use Rattle.memory_arena.specs.Pages.{roomFor}
+use Rattle.shared_arena_hashmap.specs.declared.Met.{Met}
+use Rattle.shared_arena_hashmap.specs.declared.Met.the-variants.{Empty, Standing, Damaged, Lap}
+use Rattle.shared_arena_hashmap.specs.declared.Next.{Next}
+use Rattle.shared_arena_hashmap.specs.declared.Next.the-variants.{Occupied, NoMore as NoBucket}
+use Rattle.shared_arena_hashmap.specs.Probe.{goodRecord, occupiedFrom}
+use Rattle.expull.specs.Append.{Writing, writing, appended, goodTail}
+use Rattle.expull.specs.declared.Block.{Block as Found·Block}
+use Rattle.expull.specs.declared.Block.the-variants.{BlockAt, NoBlock, BadBlock}
+use Rattle.expull.specs.Header.{fresh, laneLength}
+use Rattle.expull.specs.Blocks.{laneBytes, blockOf}
+use Rattle.spans.specs.Span.{overwrite}
+use Rattle.store.specs.declared.State.{State}
+use Rattle.store.specs.declared.Appended.{Appended}
+use Rattle.store.specs.declared.Appended.the-variants.{Accepted, Declined}
+use Rattle.store.specs.declared.Lookup.{Lookup}
+use Rattle.store.specs.declared.Lookup.the-variants.{At, Missing, Failed}
+use Rattle.store.specs.declared.Answer.{Answer}
+use Rattle.store.specs.declared.Answer.the-variants.{Absent, Found, Refused}
+use Rattle.store.specs.declared.Outcome.the-variants.{Reading}
+use Rattle.store.specs.declared.Listed.{Listed}
+use Rattle.store.specs.declared.Listed.the-variants.{Bucket, NoMore, Stopped}
+use Rattle.store.specs.State.{firstOf}
+use Rattle.store.specs.Said.{saidAppended, saidLookup, saidAnswer, saidListed}
+use Rattle.store.specs.Look.{Lent, checked, walkOf, lookupOf, onLookup, onLookupRead, headerOf, headerSound, lengthAt, lengthOf, Read, reading, blocksSound, readAt, readOf, onBlock, blockAt, findBlockOf, onNext, nextOf}
+use Rattle.store.specs.Look.{onMet as Look·onMet}
+use Rattle.store.specs.Append.{Out, out, declined, isSaturated, isCrowded, standingWritten, appendStanding, newWritten, onKeyRoom, appendNew, onMet, appendOf}
+
+-- ---- append
+
+abbrev appendNumbers : List ℕ
+appendNumbers = 2 ∷ 3 ∷ 4 ∷ 5 ∷ 6 ∷ 7 ∷ []
+
+pub record Fair (st : State) (m : Lent) (o : Out) : Type 0 where
+  pub kept : (st′ : State) (n : ℕ) → o .answer ≡ Declined st′ n → (st′ ≡ st) × (o .memory ≡ m)
+  pub numbered : listed appendNumbers (saidAppended (o .answer) .number) ≡ true
+
+fair-cond : {st : State} {m : Lent} (b : Bool) (x y : Out) → Fair st m x → Fair st m y → Fair st m (cond b x y)
+fair-cond true x y p q = p
+fair-cond false x y p q = q
+
+fair-declined : (st : State) (m : Lent) (n : ℕ) → listed appendNumbers n ≡ true → Fair st m (declined st m n)
+fair-declined st m n h = record { kept = λ s k e. (sym (same s k e), refl); numbered = h }
+  where
+    same : (s : State) (k : ℕ) → Declined st n ≡ Declined s k → st ≡ s
+    same s k e = cc
+
+fair-accepted : (st s : State) (m k : Lent) → Fair st m (out (Accepted s) k)
+fair-accepted st s m k = record { kept = λ s′ n e. absurd (never s′ n e); numbered = refl }
+  where
+    never : (s′ : State) (n : ℕ) → Accepted s ≡ Declined s′ n → ⊥
+    never s′ n e = let z : _≡_ {A = ℕ} 0 1 = cc in omega arith
+
+module _ (st : State) (m : Lent) (name bytes : List ℕ) where
+  fair-standing-written : (at : ℕ) (w : Option Writing) → Fair st m (standingWritten w st m at)
+  unfolding standingWritten
+  fair-standing-written at none = fair-declined st m 7 refl
+  fair-standing-written at (some w) = fair-accepted st _ m _
+
+  fair-standing : (at : ℕ) → Fair st m (appendStanding st m at bytes)
+  unfolding appendStanding
+  fair-standing at =
+      fair-cond (headerSound (m .keys) at && goodTail (st .«list_arena») (headerOf (m .keys) at)) _ _
+      (fair-standing-written at (appended bytes (writing (m .lists) (st .«list_arena») (headerOf (m .keys) at)))) (fair-declined st m 4 refl)
+
+  fair-new-written : (at : ℕ) (a : Arena) (w : Option Writing) → Fair st m (newWritten w st m name at a)
+  unfolding newWritten
+  fair-new-written at a none = fair-declined st m 7 refl
+  fair-new-written at a (some w) = fair-accepted st _ m _
+
+  fair-room : (r : Allocated) → Fair st m (onKeyRoom r st m name bytes)
+  unfolding onKeyRoom
+  fair-room (Room·At at a) = fair-new-written at a (appended bytes (writing (m .lists) (st .«list_arena») fresh))
+  fair-room NoRoom = fair-declined st m 6 refl
+  fair-room (Room·Refused n) = fair-declined st m 6 refl
+
+  fair-new : Fair st m (appendNew st m name bytes)
+  unfolding appendNew
+  fair-new =
+      fair-cond (isCrowded st) _ _ (fair-declined st m 5 refl)
+      (fair-room (roomFor pageSize (st .«key_arena») (length (m .keys)) (length name + recordExtra)))
+
+  fair-met : (x : Met) → Fair st m (onMet x st m name bytes)
+  unfolding onMet
+  fair-met Damaged = fair-declined st m 4 refl
+  fair-met (Standing at) = fair-standing at
+  fair-met Empty = fair-new
+  fair-met Lap = fair-cond (isSaturated st) _ _ fair-new (fair-declined st m 4 refl)
+
+  -- every append
+  pub fair-append : Fair st m (appendOf st m name bytes)
+  unfolding appendOf
+  fair-append =
+      fair-cond (checked st m) _ _
+      (fair-cond (leb (length name) nameLimit) _ _ (fair-met (walkOf st m name .met)) (fair-declined st m 3 refl)) (fair-declined st m 2 refl)
+
+-- ---- the calls by name that change nothing
+
+abbrev nameNumbers : List ℕ
+nameNumbers = 2 ∷ 3 ∷ 4 ∷ []
+
+pub fair-lookup : (st : State) (m : Lent) (name : List ℕ) → listed nameNumbers (saidLookup (lookupOf st m name) .number) ≡ true
+unfolding lookupOf
+fair-lookup st m name = go (checked st m) (leb (length name) nameLimit) (walkOf st m name .met)
+  where
+    go : (b c : Bool) (x : Met) → listed nameNumbers (saidLookup (cond b (cond c (Look·onMet x) (Failed 3)) (Failed 2)) .number) ≡ true
+    go true true Empty = refl
+    go true true (Standing at) = refl
+    go true true Damaged = refl
+    go true true Lap = refl
+    go true false x = refl
+    go false c x = refl
+
+-- a lookup's number carries over to the answer
+carried : (ns : List ℕ) (l : Lookup) (k : ℕ → Answer) → listed ns (saidLookup l .number) ≡ true → ((at : ℕ) → listed ns (saidAnswer (k at) .number) ≡ true)
+    → listed ns (saidAnswer (onLookup l k) .number) ≡ true
+carried ns (At at) k h f = f at
+carried ns Missing k h f = h
+carried ns (Failed n) k h f = h
+
+-- whatever a sound list answers, damage is 4
+sound-or-4 : (ns : List ℕ) (x : Answer) (b : Bool) → listed ns 4 ≡ true → listed ns (saidAnswer x .number) ≡ true → listed ns (saidAnswer (cond b x (Refused 4 0)) .number) ≡ true
+sound-or-4 ns x true f h = h
+sound-or-4 ns x false f h = f
+
+pub fair-length : (st : State) (m : Lent) (name : List ℕ) → listed nameNumbers (saidAnswer (lengthOf st m name) .number) ≡ true
+unfolding lengthOf lengthAt
+fair-length st m name =
+    carried nameNumbers (lookupOf st m name) (lengthAt (m .keys)) (fair-lookup st m name)
+    (λ at. sound-or-4 nameNumbers _ (headerSound (m .keys) at) refl refl)
+
+pub fair-block : (st : State) (m : Lent) (name : List ℕ) (i : ℕ) → listed nameNumbers (saidAnswer (findBlockOf st m name i) .number) ≡ true
+unfolding findBlockOf blockAt
+fair-block st m name i =
+    carried nameNumbers (lookupOf st m name) (blockAt st m i) (fair-lookup st m name)
+    (λ at. sound-or-4 nameNumbers _ (headerSound (m .keys) at) refl (go (blockOf (st .«list_arena») (m .lists) (headerOf (m .keys) at) i)))
+  where
+    go : (b : Found·Block) → listed nameNumbers (saidAnswer (onBlock b) .number) ≡ true
+    go (BlockAt at n) = refl
+    go NoBlock = refl
+    go BadBlock = refl
+
+-- ---- reading
+
+abbrev readNumbers : List ℕ
+readNumbers = 2 ∷ 3 ∷ 4 ∷ 8 ∷ []
+
+-- only a reading changes the output
+pub record FairRead (output : List ℕ) (r : Read) : Type 0 where
+  pub kept : (n told : ℕ) → r .answer ≡ Refused n told → r .output ≡ output
+  pub kept-absent : r .answer ≡ Absent → r .output ≡ output
+  pub numbered : listed readNumbers (saidAnswer (r .answer) .number) ≡ true
+
+fair-kept : (output : List ℕ) (a : Answer) → listed readNumbers (saidAnswer a .number) ≡ true → FairRead output (reading a output)
+fair-kept output a h = record { kept = λ n told e. refl; kept-absent = λ e. refl; numbered = h }
+
+fair-reading : (output written : List ℕ) (k : ℕ) → FairRead output (reading (Found (Reading k)) written)
+fair-reading output written k = record { kept = λ n told e. absurd (never n told e); kept-absent = λ e. absurd (gone e); numbered = refl }
+  where
+    never : (n told : ℕ) → Found (Reading k) ≡ Refused n told → ⊥
+    never n told e = let z : _≡_ {A = ℕ} 0 1 = cc in omega arith
+
+    gone : Found (Reading k) ≡ Absent → ⊥
+    gone e = let z : _≡_ {A = ℕ} 0 1 = cc in omega arith
+
+fair-read-cond : {output : List ℕ} (b : Bool) (x y : Read) → FairRead output x → FairRead output y → FairRead output (cond b x y)
+fair-read-cond true x y p q = p
+fair-read-cond false x y p q = q
+
+fair-read-at : (st : State) (m : Lent) (at : ℕ) (output : List ℕ) → FairRead output (readAt st m at output)
+unfolding readAt
+fair-read-at st m at output =
+    fair-read-cond (blocksSound st m at) _ _
+    (fair-read-cond (leb (laneLength (headerOf (m .keys) at)) (length output)) _ _ (fair-reading output _ _) (fair-kept output (Refused 8 (laneLength (headerOf (m .keys) at))) refl))
+    (fair-kept output (Refused 4 0) refl)
+
+pub fair-read : (st : State) (m : Lent) (name output : List ℕ) → FairRead output (readOf st m name output)
+unfolding readOf
+fair-read st m name output = go (lookupOf st m name) (fair-lookup st m name)
+  where
+    wider : (a b c d e : Bool) → (a || (b || (c || e))) ≡ true → (a || (b || (c || (d || e)))) ≡ true
+    wider true b c d e h = refl
+    wider false true c d e h = refl
+    wider false false true d e h = refl
+    wider false false false true e h = refl
+    wider false false false false e h = h
+
+    more : (n : ℕ) → listed nameNumbers n ≡ true → listed readNumbers n ≡ true
+    more n h = wider (eqb n 2) (eqb n 3) (eqb n 4) (eqb n 8) (eqb n 0) h
+
+    go : (l : Lookup) → listed nameNumbers (saidLookup l .number) ≡ true → FairRead output (onLookupRead l (λ at. readAt st m at output) output)
+    go (At at) h = fair-read-at st m at output
+    go Missing h = fair-kept output Absent refl
+    go (Failed n) h = fair-kept output (Refused n 0) (more n h)
+
+-- ---- listing
+
+pub fair-next : (st : State) (m : Lent) (i : ℕ) → listed (2 ∷ 4 ∷ []) (saidListed (nextOf st m i) .number) ≡ true
+unfolding nextOf onNext
+fair-next st m i = go (checked st m) (occupiedFrom (m .table) (firstOf st) (st .buckets - i) i)
+  where
+    inner : (b : Bool) (j at : ℕ) → listed (2 ∷ 4 ∷ []) (saidListed (cond b (Bucket j at) (Stopped 4)) .number) ≡ true
+    inner true j at = refl
+    inner false j at = refl
+
+    go : (b : Bool) (n : Next) → listed (2 ∷ 4 ∷ []) (saidListed (cond b (onNext n (st .«key_arena») (m .keys)) (Stopped 2)) .number) ≡ true
+    go true (Occupied j at) = inner (goodRecord (st .«key_arena») (m .keys) at) j at
+    go true NoBucket = refl
+    go false n = refl

@@ -1,0 +1,131 @@
+-- What the whole-state check says, in numbers, and that it is made again from those; creation's two cases. Assumes nothing.
+use Prim.Native.Nat.{ℕ, _+_, _-_, _*_, _/_, _%_, _≤_, _<_}
+use mathlib.Core.Path.{_≡_, refl, sym, ap, _∙_, subst}
+use mathlib.Core.Bool.{Bool, true, false, cond, _&&_}
+use native.Mathlib.Omega.{arith}
+use mathlib.Core.List.{List}
+use lib.Dec.{leb, ltb, eqb}
+use lib.ListN.{length}
+use borrow.Author.Tests.{le-leb, leb-true, eq-eqb, eqb-true}
+use Rattle.limits.specs.Limits.{wordLimit, bucketLimit, arenaLimit}
+use Rattle.numbers.proofs.Tests.{both, both-true}
+use Rattle.memory_arena.specs.Pages.{lendable}
+use Rattle.memory_arena.specs.Calls.{sensible}
+use Rattle.shared_arena_hashmap.specs.Power.{roundedDown, powerOfTwo, grownLength}
+use Rattle.shared_arena_hashmap.specs.Buckets.{firstBucket, cleared}
+use Rattle.shared_arena_hashmap.proofs.Laws.{power-facts}
+use Rattle.store.specs.declared.State.{State}
+use Rattle.store.specs.declared.Created.the-variants.{Made, Barred}
+use Rattle.store.specs.Append.{roomToGrow, isSaturated, grows, grownState, stateGrown}
+use Rattle.store.specs.Create.{out, creatable, freshState, createOf}
+use Rattle.store.specs.State.{lentBuckets, wordsTaken, lengthsEqual, tableFits, wholeState, firstOf}
+
+-- the check, clause by clause
+pub record Whole (st : State) (words keyBytes listBytes : ℕ) : Type 0 where
+  pub words-is : st .words ≡ words
+  pub key-bytes-is : st .«key_bytes» ≡ keyBytes
+  pub list-bytes-is : st .«list_bytes» ≡ listBytes
+  pub taken : wordsTaken words ≡ true
+  pub power : powerOfTwo (st .buckets) ≡ true
+  pub buckets-le : st .buckets ≤ lentBuckets words
+  pub keys-le : st .keys ≤ st .buckets
+  pub key-arena : sensible (st .«key_arena») keyBytes ≡ true
+  pub list-arena : sensible (st .«list_arena») listBytes ≡ true
+
+pub whole-facts : (st : State) (words keyBytes listBytes : ℕ) → wholeState st words keyBytes listBytes ≡ true → Whole st words keyBytes listBytes
+unfolding wholeState
+whole-facts st w k l e =
+    let p = both (lengthsEqual st w k l) (wordsTaken w && (tableFits st w && (sensible (st .«key_arena») k && sensible (st .«list_arena») l))) e in
+    let q = both (wordsTaken w) (tableFits st w && (sensible (st .«key_arena») k && sensible (st .«list_arena») l)) (p .1) in
+    let r = both (tableFits st w) (sensible (st .«key_arena») k && sensible (st .«list_arena») l) (q .1) in
+    let s = both (sensible (st .«key_arena») k) (sensible (st .«list_arena») l) (r .1) in
+    let a = both (eqb (st .words) w && eqb (st .«key_bytes») k) (eqb (st .«list_bytes») l) (p .0) in
+    let b = both (eqb (st .words) w) (eqb (st .«key_bytes») k) (a .0) in
+    let c = both (powerOfTwo (st .buckets) && leb (st .buckets) (lentBuckets w)) (leb (st .keys) (st .buckets)) (r .0) in
+    let d = both (powerOfTwo (st .buckets)) (leb (st .buckets) (lentBuckets w)) (c .0) in
+    record {
+      words-is = eqb-true _ _ (b .0);
+      key-bytes-is = eqb-true _ _ (b .1);
+      list-bytes-is = eqb-true _ _ (a .1);
+      taken = q .0;
+      power = d .0;
+      buckets-le = leb-true _ _ (d .1);
+      keys-le = leb-true _ _ (c .1);
+      key-arena = s .0;
+      list-arena = s .1;
+    }
+
+pub whole-made : (st : State) (words keyBytes listBytes : ℕ) → Whole st words keyBytes listBytes → wholeState st words keyBytes listBytes ≡ true
+unfolding wholeState
+whole-made st w k l h =
+    both-true _ _ (both-true _ _ (both-true _ _ (eq-eqb _ _ (h .words-is)) (eq-eqb _ _ (h .key-bytes-is))) (eq-eqb _ _ (h .list-bytes-is)))
+    (both-true _ _ (h .taken)
+    (both-true _ _ (both-true _ _ (both-true _ _ (h .power) (le-leb _ _ (h .buckets-le))) (le-leb _ _ (h .keys-le)))
+    (both-true _ _ (h .key-arena) (h .list-arena))))
+
+pub taken-facts : (words : ℕ) → wordsTaken words ≡ true → (words % 2 ≡ 0) × (words ≤ wordLimit)
+taken-facts w e = let p = both (eqb (w % 2) 0) (leb w wordLimit) e in (eqb-true _ _ (p .0), leb-true _ _ (p .1))
+
+-- the standing table lies in the lent words, at either end
+pub first-in : (st : State) (words : ℕ) → st .words ≡ words → st .buckets ≤ lentBuckets words → 2 * (firstOf st + st .buckets) ≤ words
+first-in st w e h = go (st .back)
+  where
+    go : (b : Bool) → 2 * (firstBucket b (lentBuckets (st .words)) (st .buckets) + st .buckets) ≤ w
+    go true = rw e (omega arith)
+    go false = omega arith
+
+pub buckets-few : (st : State) (words keyBytes listBytes : ℕ) → Whole st words keyBytes listBytes → st .buckets ≤ bucketLimit
+buckets-few st w k l h = omega (arith, h .buckets-le, taken-facts w (h .taken) .1)
+
+-- a table that grows fits the lent words at the other end
+pub grown-fits : (st : State) → roomToGrow st ≡ true → grownLength (st .buckets) ≤ lentBuckets (st .words)
+grown-fits st e = let h : st .buckets + grownLength (st .buckets) ≤ lentBuckets (st .words) = leb-true _ _ e in omega arith
+
+-- what growing the table asks
+pub record Growable (st : State) (words : ℕ) : Type 0 where
+  pub words-is : st .words ≡ words
+  pub fits : st .buckets ≤ st .words / 2
+  pub some : 0 < st .buckets
+  pub keys-le : st .keys ≤ st .buckets
+  pub few : st .buckets ≤ bucketLimit
+
+pub growable : (st : State) (words keyBytes listBytes : ℕ) → Whole st words keyBytes listBytes → Growable st words
+growable st w k l h = record {
+  words-is = h .words-is;
+  fits = subst (λ (n : ℕ). st .buckets ≤ n / 2) (sym (h .words-is)) (h .buckets-le);
+  some = power-facts (st .buckets) (h .power) .some;
+  keys-le = h .keys-le;
+  few = buckets-few st w k l h;
+}
+
+-- a grown table stands in the lent words too
+pub grown-stands : (st : State) (words : ℕ) → Growable st words → (0 < stateGrown st .buckets) × ((stateGrown st .buckets ≤ stateGrown st .words / 2) × (stateGrown st .words ≡ words))
+unfolding stateGrown
+grown-stands st w h = go (grows st) refl
+  where
+    go : (b : Bool) → grows st ≡ b → (0 < cond b (grownState st) st .buckets) × ((cond b (grownState st) st .buckets ≤ cond b (grownState st) st .words / 2) × (cond b (grownState st) st .words ≡ w))
+    go true e = (omega arith, (grown-fits st (both (isSaturated st) (roomToGrow st) e .1), h .words-is))
+    go false e = (h .some, (h .fits, h .words-is))
+
+-- ---- creation
+
+pub creatable-room : (capacity words keyBytes listBytes : ℕ) → creatable capacity words keyBytes listBytes ≡ true → 2 * (0 + roundedDown capacity) ≤ words
+unfolding creatable
+creatable-room c w k l e =
+    let p = both (ltb 0 c) (lendable arenaLimit k && (lendable arenaLimit l && (wordsTaken w && leb (roundedDown c) (lentBuckets w)))) e in
+    let q = both (lendable arenaLimit k) (lendable arenaLimit l && (wordsTaken w && leb (roundedDown c) (lentBuckets w))) (p .1) in
+    let r = both (lendable arenaLimit l) (wordsTaken w && leb (roundedDown c) (lentBuckets w)) (q .1) in
+    let s = both (wordsTaken w) (leb (roundedDown c) (lentBuckets w)) (r .1) in
+    let h : roundedDown c ≤ lentBuckets w = leb-true _ _ (s .1) in
+    omega arith
+
+pub create-made : (capacity seed : ℕ) (table : List ℕ) (keyBytes listBytes : ℕ) → creatable capacity (length table) keyBytes listBytes ≡ true
+    → createOf capacity seed table keyBytes listBytes
+    ≡ out (Made (freshState seed (length table) keyBytes listBytes (roundedDown capacity))) (cleared 0 (roundedDown capacity) table)
+unfolding createOf
+create-made c s t k l e = rw e
+
+pub create-barred : (capacity seed : ℕ) (table : List ℕ) (keyBytes listBytes : ℕ) → creatable capacity (length table) keyBytes listBytes ≡ false
+    → createOf capacity seed table keyBytes listBytes ≡ out (Barred 1) table
+unfolding createOf
+create-barred c s t k l e = rw e

@@ -1,0 +1,168 @@
+-- Document 01: an append. "Whether a key stands is decided in the table before growth." Everything is planned before anything is written: each refusal,
+-- the lowest that applies, leaves the lent memory and the state as they were.
+use Prim.Native.Nat.{ℕ, _+_, _-_, _*_}
+use mathlib.Core.Path.{_≡_}
+use mathlib.Core.Bool.{Bool, true, false, cond, _&&_, _||_, not}
+use mathlib.Core.Option.{Option, none, some}
+use mathlib.Core.List.{List, [], _∷_, _++_}
+use lib.Dec.{leb, ltb, eqb}
+use lib.ListN.{length}
+use Rattle.limits.specs.Limits.{pageSize, nameLimit, recordExtra}
+use Rattle.numbers.specs.LittleEndian.{leBytes}
+use Rattle.spans.specs.Span.{overwrite}
+use Rattle.murmurhash2.specs.Murmur.{murmurHash2}
+use Rattle.memory_arena.specs.declared.Arena.{Arena}
+use Rattle.memory_arena.specs.declared.Allocated.{Allocated}
+use Rattle.memory_arena.specs.declared.Allocated.the-variants.{At, NoRoom, Refused}
+use Rattle.memory_arena.specs.Pages.{roomFor}
+use Rattle.shared_arena_hashmap.specs.declared.Met.{Met}
+use Rattle.shared_arena_hashmap.specs.declared.Met.the-variants.{Empty, Standing, Damaged, Lap}
+use Rattle.shared_arena_hashmap.specs.Power.{grownLength}
+use Rattle.shared_arena_hashmap.specs.Buckets.{firstBucket, saturated}
+use Rattle.shared_arena_hashmap.specs.Probe.{valuePlace}
+use Rattle.shared_arena_hashmap.specs.Grow.{entered, grown}
+use Rattle.expull.specs.declared.Header.{Header}
+use Rattle.expull.specs.Header.{fresh, headerBytes, soundHeader}
+use Rattle.expull.specs.Append.{Writing, writing, appended, planOf, isSome, goodTail}
+use Rattle.store.specs.declared.State.{State}
+use Rattle.store.specs.declared.Appended.{Appended}
+use Rattle.store.specs.declared.Appended.the-variants.{Accepted, Declined}
+use Rattle.store.specs.State.{wholeState, lentBuckets, firstOf}
+use Rattle.store.specs.Look.{Lent, lent, checked, walkOf, headerOf, headerSound}
+
+-- the answer, and each lent slice as the call leaves it
+pub record Out : Type 0 where
+  pub answer : Appended
+  pub memory : Lent
+
+abbrev pub out : Appended → Lent → Out
+out r m = record { answer = r; memory = m }
+
+-- a refusal: everything as it was
+abbrev pub declined : State → Lent → ℕ → Out
+declined st m n = out (Declined st n) m
+
+-- ---- growth
+
+-- "Growing needs L + new length ≤ T."
+abbrev pub roomToGrow : State → Bool
+roomToGrow st = leb (st .buckets + grownLength (st .buckets)) (lentBuckets (st .words))
+
+abbrev pub isSaturated : State → Bool
+isSaturated st = saturated (st .buckets) (st .keys)
+
+-- saturated without room to grow: a new key can't be entered
+abbrev pub isCrowded : State → Bool
+isCrowded st = isSaturated st && not (roomToGrow st)
+
+-- "An append on a saturated table grows it, even when the key stands already"; without room nothing grows
+abbrev pub grows : State → Bool
+grows st = isSaturated st && roomToGrow st
+
+-- the state with the grown table at the other end
+abbrev pub grownState : State → State
+grownState st = record {
+  seed = st .seed;
+  words = st .words;
+  «key_bytes» = st .«key_bytes»;
+  «list_bytes» = st .«list_bytes»;
+  buckets = grownLength (st .buckets);
+  back = not (st .back);
+  keys = st .keys;
+  «key_arena» = st .«key_arena»;
+  «list_arena» = st .«list_arena»;
+}
+
+unfoldable pub stateGrown : State → State
+stateGrown st = cond (grows st) (grownState st) st
+
+unfoldable pub tableGrown : State → List ℕ → List ℕ
+unfolding grown
+tableGrown st t =
+    cond (grows st) (grown (st .buckets) (firstOf st) (firstOf (grownState st)) (grownLength (st .buckets)) t) t
+
+-- ---- what has to be known before anything is written: the state is whole, the list's header and tail are no damage, and its blocks fit
+
+pub record Planned (st : State) (m : Lent) (h : Header) (bytes : List ℕ) : Type 0 where
+  pub whole : checked st m ≡ true
+  pub sound : soundHeader h 0 ≡ true
+  pub tail : goodTail (st .«list_arena») h ≡ true
+  pub room : isSome (planOf (length (m .lists)) (st .«list_arena») h (length bytes)) ≡ true
+
+-- ---- a standing lane
+
+-- the state with other arena states and another number of keys
+abbrev pub movedState : State → ℕ → Arena → Arena → State
+movedState st keys keyArena listArena = record {
+  seed = st .seed;
+  words = st .words;
+  «key_bytes» = st .«key_bytes»;
+  «list_bytes» = st .«list_bytes»;
+  buckets = st .buckets;
+  back = st .back;
+  keys = keys;
+  «key_arena» = keyArena;
+  «list_arena» = listArena;
+}
+
+-- the list's outcome: its 16 header bytes are written anew, the list pages are as the list leaves them, the table is grown if it is to grow
+unfoldable pub standingWritten : Option Writing → State → Lent → ℕ → Out
+unfolding stateGrown tableGrown valuePlace headerBytes overwrite
+standingWritten none st m at = declined st m 7
+standingWritten (some w) st m at =
+    out (Accepted (movedState (stateGrown st) (st .keys) (st .«key_arena») (w .arena)))
+    (lent (tableGrown st (m .table)) (overwrite (valuePlace (m .keys) at) (headerBytes (w .header)) (m .keys)) (w .memory))
+
+unfoldable pub appendStanding : State → Lent → ℕ → List ℕ → Out
+unfolding headerSound goodTail appended standingWritten
+appendStanding st m at bytes =
+    cond (headerSound (m .keys) at && goodTail (st .«list_arena») (headerOf (m .keys) at))
+    (standingWritten (appended bytes (writing (m .lists) (st .«list_arena») (headerOf (m .keys) at))) st m at)
+    (declined st m 4)
+
+-- ---- a new lane
+
+-- "A record is the key length as 2 little-endian bytes, the key, a 16-byte value"
+unfoldable pub recordBytes : List ℕ → Header → List ℕ
+unfolding leBytes headerBytes
+recordBytes name h = leBytes 2 (length name) ++ (name ++ headerBytes h)
+
+-- "A new key goes in the first empty bucket of its probe, after any growth."
+unfoldable pub newWritten : Option Writing → State → Lent → List ℕ → ℕ → Arena → Out
+unfolding stateGrown tableGrown entered recordBytes murmurHash2
+newWritten none st m name at keyArena = declined st m 7
+newWritten (some w) st m name at keyArena =
+    out (Accepted (movedState (stateGrown st) (st .keys + 1) keyArena (w .arena)))
+    (lent (entered (firstOf (stateGrown st)) (stateGrown st .buckets) at (murmurHash2 (st .seed) name) (tableGrown st (m .table)))
+    (overwrite at (recordBytes name (w .header)) (m .keys)) (w .memory))
+
+-- the new record's room; its list starts fresh
+unfoldable pub onKeyRoom : Allocated → State → Lent → List ℕ → List ℕ → Out
+unfolding newWritten appended
+onKeyRoom (At at keyArena) st m name bytes =
+    newWritten (appended bytes (writing (m .lists) (st .«list_arena») fresh)) st m name at keyArena
+onKeyRoom NoRoom st m name bytes = declined st m 6
+onKeyRoom (Refused n) st m name bytes = declined st m 6
+
+unfoldable pub appendNew : State → Lent → List ℕ → List ℕ → Out
+unfolding onKeyRoom roomFor
+appendNew st m name bytes =
+    cond (isCrowded st) (declined st m 5)
+    (onKeyRoom (roomFor pageSize (st .«key_arena») (length (m .keys)) (length name + recordExtra)) st m name bytes)
+
+-- ---- the call
+
+-- a lap without an empty bucket is damage where the table isn't saturated
+unfoldable pub onMet : Met → State → Lent → List ℕ → List ℕ → Out
+unfolding appendStanding appendNew
+onMet Damaged st m name bytes = declined st m 4
+onMet (Standing at) st m name bytes = appendStanding st m at bytes
+onMet Empty st m name bytes = appendNew st m name bytes
+onMet Lap st m name bytes = cond (isSaturated st) (appendNew st m name bytes) (declined st m 4)
+
+unfoldable pub appendOf : State → Lent → List ℕ → List ℕ → Out
+unfolding wholeState walkOf onMet
+appendOf st m name bytes =
+    cond (checked st m)
+    (cond (leb (length name) nameLimit) (onMet (walkOf st m name .met) st m name bytes) (declined st m 3))
+    (declined st m 2)

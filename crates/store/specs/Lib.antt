@@ -1,0 +1,5 @@
+pub mod Said
+pub mod State
+pub mod Create
+pub mod Look
+pub mod Append

@@ -1,0 +1,81 @@
+// The store: a lane's name is the key, a list header the value; keys and lists live in two separate arenas, the table in lent words.
+//
+// It promises, for any state, any lent memory and any bytes: each call ends, stays inside what is lent, and answers or refuses by a number of
+// document 01, exactly as specs/ says; a refusal changes no lent byte or word and gives the state back equal. Each contract is one equation: the
+// answer and every lent slice as the call leaves it. It uses limits, numbers, spans, murmurhash2, fastcpy, memory_arena, shared_arena_hashmap
+// and expull.
+pub mod check;
+pub mod create;
+pub mod look;
+pub mod write;
+
+use expull::Header;
+use memory_arena::Arena;
+
+// What the store remembers between calls (document 01, "Numbers that bound the store").
+pub struct State {
+    pub seed: u32,
+    // the three lent lengths: words of the table, bytes of the key pages and of the list pages
+    pub words: usize,
+    pub key_bytes: usize,
+    pub list_bytes: usize,
+    // the standing table: its buckets, whether it stands at the back of the lent words, and the keys in it
+    pub buckets: usize,
+    pub back: bool,
+    pub keys: usize,
+    pub key_arena: Arena,
+    pub list_arena: Arena,
+}
+
+// A creation's answer.
+pub enum Created {
+    Made(State),
+    Barred(u32),
+}
+
+// An append's answer: the state comes back either way.
+pub enum Appended {
+    Accepted(State),
+    Declined(State, u32),
+}
+
+// A lookup's answer: either the record's place or the plain word absent, never both.
+pub enum Lookup {
+    At(u32),
+    Missing,
+    Failed(u32),
+}
+
+// The header of a standing lane's list, or damage.
+pub enum Head {
+    Sound(Header),
+    Broken,
+}
+
+// What a standing lane's list answers.
+pub enum Outcome {
+    Length(u64),
+    Reading(u64),
+    Block(u32, u64),
+    NoSuchBlock,
+}
+
+// An answer by name: absent, found with the list's outcome inside it, or refused with a number and what it tells.
+pub enum Answer {
+    Absent,
+    Found(Outcome),
+    Refused(u32, u64),
+}
+
+// A listing's answer: the next occupied bucket and its record's place, none, or a refusal.
+pub enum Listed {
+    Bucket(usize, u32),
+    NoMore,
+    Stopped(u32),
+}
+
+// The number of keys, or a refusal.
+pub enum Counted {
+    Keys(usize),
+    Unknown(u32),
+}

@@ -1,0 +1,268 @@
+// The calls that change nothing but a lent output: lookup, length, reading, blocks, listing, the number of keys.
+use crate::Answer;
+use crate::Counted;
+use crate::Head;
+use crate::Listed;
+use crate::Lookup;
+use crate::Outcome;
+use crate::State;
+use expull::Block;
+use memory_arena::Arena;
+use shared_arena_hashmap::Met;
+use shared_arena_hashmap::Next;
+use shared_arena_hashmap::Walk;
+ghost use mathlib.Core.Path.{_≡_};
+ghost use mathlib.Core.Bool.{true};
+ghost use mathlib.Core.List.{[], _∷_};
+ghost use Prim.Native.Nat.{_+_, _≤_};
+ghost use lib.ListN.{length};
+ghost use Rattle.limits.specs.Refusals.{listed};
+ghost use Rattle.memory_arena.specs.Calls.{sensible};
+ghost use Rattle.shared_arena_hashmap.specs.Probe.{valuePlace};
+ghost use Rattle.store.specs.Said.{saidLookup, saidAnswer, saidListed, saidCounted};
+ghost use Rattle.store.specs.State.{wholeState};
+ghost use Rattle.store.specs.Look.{lent, checked, walkOf, onMet, lookupOf, notFound, headOf, lengthAt, lengthOf, reading, readAt, readOf, onBlock, blockAt, findBlockOf, showOf, onNext, nextOf, countOf};
+
+// The walk of a name's lookup, in a store whose state is whole.
+pub fn walk(st: State, table: &[u32], keys: &[u8], lists: &[u8], name: &[u8]) -> Walk
+    requires { ⌜ checked st (lent (now table) (now keys) (now lists)) ≡ true ⌝ }
+    ensures { λ r. ⌜ r ≡ walkOf st (lent (now (table .entry)) (now (keys .entry)) (now (lists .entry))) (now (name .entry)) ⌝ }
+{
+    let arena = st.key_arena;
+    let first = crate::check::first_bucket(st);
+    let hash = murmurhash2::murmurhash2(name, st.seed);
+    shared_arena_hashmap::find(table, keys, arena, first, st.buckets, hash, name)
+}
+
+fn on_met(met: Met) -> Lookup
+    ensures { λ r. ⌜ r ≡ onMet met ⌝ }
+{
+    match met {
+        Met::Empty => Lookup::Missing,
+        Met::Standing(at) => Lookup::At(at),
+        Met::Damaged => Lookup::Failed(4),
+        Met::Lap => Lookup::Missing,
+    }
+}
+
+// The place of a name's record, or absent.
+pub fn lookup(st: State, table: &[u32], keys: &[u8], lists: &[u8], name: &[u8]) -> Lookup
+    ensures { λ r. ⌜ (r ≡ lookupOf st (lent (now (table .entry)) (now (keys .entry)) (now (lists .entry))) (now (name .entry))) × (listed (2 ∷ 3 ∷ 4 ∷ []) (saidLookup r .number) ≡ true) ⌝ }
+{
+    if !crate::check::is_whole_state(st, table.len(), keys.len(), lists.len()) {
+        return Lookup::Failed(2);
+    }
+    if limits::NAME_LIMIT < name.len() {
+        return Lookup::Failed(3);
+    }
+    let w = walk(st, table, keys, lists, name);
+    let met = w.met;
+    on_met(met)
+}
+
+// The answer to a lookup that found no record.
+fn not_found(found: Lookup) -> Answer
+    ensures { λ r. ⌜ r ≡ notFound found ⌝ }
+{
+    match found {
+        Lookup::At(_) => Answer::Absent,
+        Lookup::Missing => Answer::Absent,
+        Lookup::Failed(n) => Answer::Refused(n, 0),
+    }
+}
+
+// Where a record's value starts.
+pub fn value_place(keys: &[u8], at: u32) -> usize
+    requires { ⌜ at + 2 ≤ length (now keys) ⌝ }
+    ensures { λ r. ⌜ r ≡ valuePlace (now (keys .entry)) at ⌝ }
+{
+    (at as usize) + 2 + shared_arena_hashmap::key_length(keys, at)
+}
+
+// The header of the record at a place, or damage.
+pub fn get_head(keys: &[u8], at: u32) -> Head
+    requires { ⌜ (at + 2 ≤ length (now keys)) × (valuePlace (now keys) at + 16 ≤ length (now keys)) ⌝ }
+    ensures { λ r. ⌜ r ≡ headOf (now (keys .entry)) at ⌝ }
+{
+    let place = value_place(keys, at);
+    let h = expull::headers::get_header(keys, place);
+    let ends = expull::headers::get_end_bytes(keys, place);
+    if expull::headers::is_sound_header(h, ends) {
+        return Head::Sound(h);
+    }
+    Head::Broken
+}
+
+// A standing lane's length.
+fn length_at(keys: &[u8], at: u32) -> Answer
+    requires { ⌜ (at + 2 ≤ length (now keys)) × (valuePlace (now keys) at + 16 ≤ length (now keys)) ⌝ }
+    ensures { λ r. ⌜ r ≡ lengthAt (now (keys .entry)) at ⌝ }
+{
+    let head = get_head(keys, at);
+    let Head::Sound(h) = head else {
+        return Answer::Refused(4, 0);
+    };
+    Answer::Found(Outcome::Length(expull::headers::lane_length(h)))
+}
+
+// A lane's length.
+pub fn length(st: State, table: &[u32], keys: &[u8], lists: &[u8], name: &[u8]) -> Answer
+    ensures { λ r. ⌜ (r ≡ lengthOf st (lent (now (table .entry)) (now (keys .entry)) (now (lists .entry))) (now (name .entry))) × (listed (2 ∷ 3 ∷ 4 ∷ []) (saidAnswer r .number) ≡ true) ⌝ }
+{
+    let found = lookup(st, table, keys, lists, name);
+    let Lookup::At(at) = found else {
+        return not_found(found);
+    };
+    length_at(keys, at)
+}
+
+// A standing lane's reading. All blocks are met before the output's length matters, and that before a byte is written.
+fn read_at(
+    st: State,
+    table: &[u32],
+    keys: &[u8],
+    lists: &[u8],
+    at: u32,
+    output: &mut [u8],
+) -> Answer
+    requires { ⌜ (sensible (st .«list_arena») (length (now lists)) ≡ true) × ((at + 2 ≤ length (now keys)) × (valuePlace (now keys) at + 16 ≤ length (now keys))) ⌝ }
+    ensures { λ r. ⌜ reading r (now (output .exit)) ≡ readAt st (lent (now (table .entry)) (now (keys .entry)) (now (lists .entry))) at (now (output .entry)) ⌝ }
+{
+    let arena = st.list_arena;
+    let head = get_head(keys, at);
+    let Head::Sound(h) = head else {
+        return Answer::Refused(4, 0);
+    };
+    if !expull::walk::are_good_blocks(lists, arena, h.head, h.number - 2) {
+        return Answer::Refused(4, 0);
+    }
+    let n = expull::headers::lane_length(h);
+    if (output.len() as u64) < n {
+        return Answer::Refused(8, n);
+    }
+    expull::walk::read_to_end(lists, arena, h, output);
+    Answer::Found(Outcome::Reading(n))
+}
+
+// A lane's bytes to the front of the output.
+pub fn read(
+    st: State,
+    table: &[u32],
+    keys: &[u8],
+    lists: &[u8],
+    name: &[u8],
+    output: &mut [u8],
+) -> Answer
+    ensures { λ r. ⌜ (reading r (now (output .exit)) ≡ readOf st (lent (now (table .entry)) (now (keys .entry)) (now (lists .entry))) (now (name .entry)) (now (output .entry))) × (listed (2 ∷ 3 ∷ 4 ∷ 8 ∷ []) (saidAnswer r .number) ≡ true) ⌝ }
+{
+    let found = lookup(st, table, keys, lists, name);
+    let Lookup::At(at) = found else {
+        return not_found(found);
+    };
+    read_at(st, table, keys, lists, at, output)
+}
+
+fn on_block(b: Block) -> Answer
+    ensures { λ r. ⌜ r ≡ onBlock b ⌝ }
+{
+    match b {
+        Block::BlockAt(at, n) => Answer::Found(Outcome::Block(at, n as u64)),
+        Block::NoBlock => Answer::Found(Outcome::NoSuchBlock),
+        Block::BadBlock => Answer::Refused(4, 0),
+    }
+}
+
+fn block_at(st: State, table: &[u32], keys: &[u8], lists: &[u8], at: u32, index: usize) -> Answer
+    requires { ⌜ (sensible (st .«list_arena») (length (now lists)) ≡ true) × ((at + 2 ≤ length (now keys)) × (valuePlace (now keys) at + 16 ≤ length (now keys))) ⌝ }
+    ensures { λ r. ⌜ r ≡ blockAt st (lent (now (table .entry)) (now (keys .entry)) (now (lists .entry))) index at ⌝ }
+{
+    let arena = st.list_arena;
+    let head = get_head(keys, at);
+    let Head::Sound(h) = head else {
+        return Answer::Refused(4, 0);
+    };
+    on_block(expull::walk::find_block(lists, arena, h, index))
+}
+
+// The place and length of block `index` of a lane, from 0.
+pub fn find_block(
+    st: State,
+    table: &[u32],
+    keys: &[u8],
+    lists: &[u8],
+    name: &[u8],
+    index: usize,
+) -> Answer
+    ensures { λ r. ⌜ (r ≡ findBlockOf st (lent (now (table .entry)) (now (keys .entry)) (now (lists .entry))) (now (name .entry)) index) × (listed (2 ∷ 3 ∷ 4 ∷ []) (saidAnswer r .number) ≡ true) ⌝ }
+{
+    let found = lookup(st, table, keys, lists, name);
+    let Lookup::At(at) = found else {
+        return not_found(found);
+    };
+    block_at(st, table, keys, lists, at, index)
+}
+
+// A good span of the list pages, shown as a part of them; the empty part otherwise.
+pub fn show_block<'a>(
+    st: State,
+    table: &[u32],
+    keys: &[u8],
+    lists: &'a [u8],
+    at: u32,
+    n: usize,
+) -> &'a [u8]
+    ensures { λ r. ⌜ now r ≡ showOf st (lent (now (table .entry)) (now (keys .entry)) (now (lists .entry))) at n ⌝ }
+{
+    let arena = st.list_arena;
+    if !crate::check::is_whole_state(st, table.len(), keys.len(), lists.len()) {
+        return &lists[0..0];
+    }
+    if !memory_arena::is_good_span(arena, at, n) {
+        return &lists[0..0];
+    }
+    let from = at as usize;
+    let to = from + n;
+    &lists[from..to]
+}
+
+fn on_next(keys: &[u8], arena: Arena, next: Next) -> Listed
+    requires { ⌜ sensible arena (length (now keys)) ≡ true ⌝ }
+    ensures { λ r. ⌜ r ≡ onNext next arena (now (keys .entry)) ⌝ }
+{
+    match next {
+        Next::Occupied(i, at) => {
+            if shared_arena_hashmap::is_good_record(keys, arena, at) {
+                return Listed::Bucket(i, at);
+            }
+            Listed::Stopped(4)
+        }
+        Next::NoMore => Listed::NoMore,
+    }
+}
+
+// The next occupied bucket from an index on, that one included.
+pub fn next_occupied(st: State, table: &[u32], keys: &[u8], lists: &[u8], index: usize) -> Listed
+    ensures { λ r. ⌜ (r ≡ nextOf st (lent (now (table .entry)) (now (keys .entry)) (now (lists .entry))) index) × (listed (2 ∷ 4 ∷ []) (saidListed r .number) ≡ true) ⌝ }
+{
+    if !crate::check::is_whole_state(st, table.len(), keys.len(), lists.len()) {
+        return Listed::Stopped(2);
+    }
+    let arena = st.key_arena;
+    let buckets = st.buckets;
+    if buckets <= index {
+        return Listed::NoMore;
+    }
+    let first = crate::check::first_bucket(st);
+    let next = shared_arena_hashmap::next_occupied(table, first, buckets - index, index);
+    on_next(keys, arena, next)
+}
+
+// The number of keys.
+pub fn key_count(st: State, table: &[u32], keys: &[u8], lists: &[u8]) -> Counted
+    ensures { λ r. ⌜ (r ≡ countOf st (lent (now (table .entry)) (now (keys .entry)) (now (lists .entry)))) × (listed (2 ∷ []) (saidCounted r .number) ≡ true) ⌝ }
+{
+    if crate::check::is_whole_state(st, table.len(), keys.len(), lists.len()) {
+        return Counted::Keys(st.keys);
+    }
+    Counted::Unknown(2)
+}

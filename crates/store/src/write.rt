@@ -1,0 +1,269 @@
+// The append. Everything is planned before anything is written.
+use crate::Appended;
+use crate::Head;
+use crate::State;
+use expull::Header;
+use memory_arena::Allocated;
+use memory_arena::Arena;
+use shared_arena_hashmap::Met;
+ghost use mathlib.Core.Path.{_≡_};
+ghost use mathlib.Core.Bool.{true};
+ghost use mathlib.Core.List.{[], _∷_};
+ghost use Prim.Native.Nat.{_+_, _/_, _≤_, _<_};
+ghost use lib.ListN.{length};
+ghost use Rattle.limits.specs.Limits.{nameLimit, bucketLimit};
+ghost use Rattle.limits.specs.Refusals.{listed};
+ghost use Rattle.spans.specs.Span.{overwrite};
+ghost use Rattle.shared_arena_hashmap.specs.Power.{grownLength};
+ghost use Rattle.shared_arena_hashmap.specs.Probe.{valuePlace};
+ghost use Rattle.murmurhash2.specs.Murmur.{murmurHash2};
+ghost use Rattle.shared_arena_hashmap.specs.Grow.{entered};
+ghost use Rattle.expull.specs.Header.{fresh};
+ghost use Rattle.expull.specs.Append.{writing, appended};
+ghost use Rattle.store.specs.Said.{saidAppended};
+ghost use Rattle.store.specs.State.{firstOf};
+ghost use Rattle.store.specs.Look.{lent, checked};
+ghost use Rattle.store.specs.Append.{out, roomToGrow, isSaturated, isCrowded, grownState, stateGrown, tableGrown, movedState, appendStanding, Planned, standingWritten, recordBytes, newWritten, appendNew, onMet, appendOf};
+
+fn is_saturated(st: State) -> bool
+    requires { ⌜ (st .keys ≤ st .buckets) × (st .buckets ≤ bucketLimit) ⌝ }
+    ensures { λ r. ⌜ r ≡ isSaturated st ⌝ }
+{
+    st.buckets <= 2 * st.keys
+}
+
+// The length of a grown table.
+fn grown_length(buckets: usize) -> usize
+    requires { ⌜ buckets ≤ bucketLimit ⌝ }
+    ensures { λ r. ⌜ r ≡ grownLength buckets ⌝ }
+{
+    if 2 * buckets <= 8 {
+        return 8;
+    }
+    2 * buckets
+}
+
+fn has_room_to_grow(st: State) -> bool
+    requires { ⌜ st .buckets ≤ bucketLimit ⌝ }
+    ensures { λ r. ⌜ r ≡ roomToGrow st ⌝ }
+{
+    let buckets = st.buckets;
+    buckets + grown_length(buckets) <= st.words / 2
+}
+
+// Saturated and without room to grow: no new key can be entered.
+fn is_crowded(st: State) -> bool
+    requires { ⌜ (st .keys ≤ st .buckets) × (st .buckets ≤ bucketLimit) ⌝ }
+    ensures { λ r. ⌜ r ≡ isCrowded st ⌝ }
+{
+    if is_saturated(st) {
+        return !has_room_to_grow(st);
+    }
+    false
+}
+
+// The state with the grown table at the other end.
+fn grown_state(st: State) -> State
+    requires { ⌜ st .buckets ≤ bucketLimit ⌝ }
+    ensures { λ r. ⌜ r ≡ grownState st ⌝ }
+{
+    let mut next = st;
+    next.buckets = grown_length(st.buckets);
+    next.back = !st.back;
+    next
+}
+
+// Grows the table where it is saturated and has room to grow.
+fn grow_table(st: State, table: &mut [u32]) -> State
+    requires { ⌜ (st .words ≡ length (now table)) × ((st .buckets ≤ st .words / 2) × ((0 < st .buckets) × ((st .keys ≤ st .buckets) × (st .buckets ≤ bucketLimit)))) ⌝ }
+    ensures { λ r. ⌜ (r ≡ stateGrown st) × (now (table .exit) ≡ tableGrown st (now (table .entry))) ⌝ }
+{
+    if !is_saturated(st) {
+        return st;
+    }
+    if !has_room_to_grow(st) {
+        return st;
+    }
+    let old = crate::check::first_bucket(st);
+    let next = grown_state(st);
+    let first = crate::check::first_bucket(next);
+    shared_arena_hashmap::grow::resize(table, st.buckets, old, first, next.buckets);
+    next
+}
+
+// The state with other arena states and another number of keys.
+fn moved_state(st: State, keys: usize, key_arena: Arena, list_arena: Arena) -> State
+    ensures { λ r. ⌜ r ≡ movedState st keys «key_arena» «list_arena» ⌝ }
+{
+    let mut next = st;
+    next.keys = keys;
+    next.key_arena = key_arena;
+    next.list_arena = list_arena;
+    next
+}
+
+// Writes a record: the name's length, the name, the header.
+fn put_record(keys: &mut [u8], at: usize, name: &[u8], h: Header)
+    requires { ⌜ (at + (length (now name) + 18) ≤ length (now keys)) × (length (now name) ≤ nameLimit) ⌝ }
+    ensures { λ _. ⌜ now (keys .exit) ≡ overwrite at (recordBytes (now (name .entry)) h) (now (keys .entry)) ⌝ }
+{
+    let n = name.len();
+    spans::put_u16(keys, at, n as u32);
+    fastcpy::copy_in(keys, at + 2, name);
+    expull::headers::put_header(keys, at + 2 + n, h);
+}
+
+// Writes what an append to a standing lane has planned: the list, its header, the table where it grows.
+fn write_standing(
+    st: State,
+    table: &mut [u32],
+    keys: &mut [u8],
+    lists: &mut [u8],
+    at: u32,
+    h: Header,
+    bytes: &[u8],
+) -> Appended
+    requires { ⌜ Planned st (lent (now table) (now keys) (now lists)) h (now bytes) ⌝ }
+    requires { ⌜ (at + 2 ≤ length (now keys)) × (valuePlace (now keys) at + 16 ≤ length (now keys)) ⌝ }
+    ensures { λ r. ⌜ out r (lent (now (table .exit)) (now (keys .exit)) (now (lists .exit))) ≡ standingWritten (appended (now (bytes .entry)) (writing (now (lists .entry)) (st .«list_arena») h)) st (lent (now (table .entry)) (now (keys .entry)) (now (lists .entry))) at ⌝ }
+{
+    let arena = st.list_arena;
+    let list = expull::write::extend_from_slice(lists, arena, h, bytes);
+    let place = crate::look::value_place(keys, at);
+    expull::headers::put_header(keys, place, list.header);
+    let grown = grow_table(st, table);
+    Appended::Accepted(moved_state(grown, st.keys, st.key_arena, list.arena))
+}
+
+// An append to a standing lane, whose record is at a place.
+fn append_standing(
+    st: State,
+    table: &mut [u32],
+    keys: &mut [u8],
+    lists: &mut [u8],
+    at: u32,
+    bytes: &[u8],
+) -> Appended
+    requires { ⌜ (checked st (lent (now table) (now keys) (now lists)) ≡ true) × ((at + 2 ≤ length (now keys)) × (valuePlace (now keys) at + 16 ≤ length (now keys))) ⌝ }
+    ensures { λ r. ⌜ out r (lent (now (table .exit)) (now (keys .exit)) (now (lists .exit))) ≡ appendStanding st (lent (now (table .entry)) (now (keys .entry)) (now (lists .entry))) at (now (bytes .entry)) ⌝ }
+{
+    let arena = st.list_arena;
+    let head = crate::look::get_head(keys, at);
+    let Head::Sound(h) = head else {
+        return Appended::Declined(st, 4);
+    };
+    if !expull::write::is_good_tail(arena, h) {
+        return Appended::Declined(st, 4);
+    }
+    if !expull::write::blocks_fit(arena, lists.len(), h, bytes.len()) {
+        return Appended::Declined(st, 7);
+    }
+    write_standing(st, table, keys, lists, at, h, bytes)
+}
+
+// Writes what an append to a new lane has planned: the list, the record, the table and the new bucket in it.
+fn write_new(
+    st: State,
+    table: &mut [u32],
+    keys: &mut [u8],
+    lists: &mut [u8],
+    name: &[u8],
+    bytes: &[u8],
+    at: u32,
+    key_arena: Arena,
+) -> Appended
+    requires { ⌜ Planned st (lent (now table) (now keys) (now lists)) fresh (now bytes) ⌝ }
+    requires { ⌜ (length (now name) ≤ nameLimit) × (at + (length (now name) + 18) ≤ length (now keys)) ⌝ }
+    ensures { λ r. ⌜ out r (lent (now (table .exit)) (now (keys .exit)) (now (lists .exit))) ≡ newWritten (appended (now (bytes .entry)) (writing (now (lists .entry)) (st .«list_arena») fresh)) st (lent (now (table .entry)) (now (keys .entry)) (now (lists .entry))) (now (name .entry)) at «key_arena» ⌝ }
+{
+    let arena = st.list_arena;
+    let h = expull::headers::fresh_header();
+    let list = expull::write::extend_from_slice(lists, arena, h, bytes);
+    put_record(keys, at as usize, name, list.header);
+    let grown = grow_table(st, table);
+    enter_new(st, grown, table, name, at);
+    Appended::Accepted(moved_state(grown, st.keys + 1, key_arena, list.arena))
+}
+
+// Enters a new name's record in the table, which has grown if it was to grow.
+fn enter_new(st: State, grown: State, table: &mut [u32], name: &[u8], at: u32)
+    requires { ⌜ (0 < grown .buckets) × ((grown .buckets ≤ grown .words / 2) × (grown .words ≡ length (now table))) ⌝ }
+    ensures { λ _. ⌜ now (table .exit) ≡ entered (firstOf grown) (grown .buckets) at (murmurHash2 (st .seed) (now (name .entry))) (now (table .entry)) ⌝ }
+{
+    let first = crate::check::first_bucket(grown);
+    let hash = murmurhash2::murmurhash2(name, st.seed);
+    shared_arena_hashmap::grow::enter(table, first, grown.buckets, at, hash);
+}
+
+// An append to a name that doesn't stand.
+fn append_new(
+    st: State,
+    table: &mut [u32],
+    keys: &mut [u8],
+    lists: &mut [u8],
+    name: &[u8],
+    bytes: &[u8],
+) -> Appended
+    requires { ⌜ (checked st (lent (now table) (now keys) (now lists)) ≡ true) × (length (now name) ≤ nameLimit) ⌝ }
+    ensures { λ r. ⌜ out r (lent (now (table .exit)) (now (keys .exit)) (now (lists .exit))) ≡ appendNew st (lent (now (table .entry)) (now (keys .entry)) (now (lists .entry))) (now (name .entry)) (now (bytes .entry)) ⌝ }
+{
+    if is_crowded(st) {
+        return Appended::Declined(st, 5);
+    }
+    let arena = st.key_arena;
+    let room = memory_arena::find_room(arena, keys.len(), name.len() + limits::RECORD_EXTRA);
+    let Allocated::At(at, key_arena) = room else {
+        return Appended::Declined(st, 6);
+    };
+    let lists_arena = st.list_arena;
+    let h = expull::headers::fresh_header();
+    if !expull::write::blocks_fit(lists_arena, lists.len(), h, bytes.len()) {
+        return Appended::Declined(st, 7);
+    }
+    write_new(st, table, keys, lists, name, bytes, at, key_arena)
+}
+
+// After a lap without an empty bucket: damage, unless the table is saturated.
+fn append_after_lap(
+    st: State,
+    table: &mut [u32],
+    keys: &mut [u8],
+    lists: &mut [u8],
+    name: &[u8],
+    bytes: &[u8],
+) -> Appended
+    requires { ⌜ (checked st (lent (now table) (now keys) (now lists)) ≡ true) × (length (now name) ≤ nameLimit) ⌝ }
+    ensures { λ r. ⌜ out r (lent (now (table .exit)) (now (keys .exit)) (now (lists .exit))) ≡ onMet Met.Lap st (lent (now (table .entry)) (now (keys .entry)) (now (lists .entry))) (now (name .entry)) (now (bytes .entry)) ⌝ }
+{
+    if is_saturated(st) {
+        return append_new(st, table, keys, lists, name, bytes);
+    }
+    Appended::Declined(st, 4)
+}
+
+// Appends bytes to the lane of a name, which is entered where it doesn't stand.
+pub fn append(
+    st: State,
+    table: &mut [u32],
+    keys: &mut [u8],
+    lists: &mut [u8],
+    name: &[u8],
+    bytes: &[u8],
+) -> Appended
+    ensures { λ r. ⌜ (out r (lent (now (table .exit)) (now (keys .exit)) (now (lists .exit))) ≡ appendOf st (lent (now (table .entry)) (now (keys .entry)) (now (lists .entry))) (now (name .entry)) (now (bytes .entry))) × (listed (2 ∷ 3 ∷ 4 ∷ 5 ∷ 6 ∷ 7 ∷ []) (saidAppended r .number) ≡ true) ⌝ }
+{
+    if !crate::check::is_whole_state(st, table.len(), keys.len(), lists.len()) {
+        return Appended::Declined(st, 2);
+    }
+    if limits::NAME_LIMIT < name.len() {
+        return Appended::Declined(st, 3);
+    }
+    let w = crate::look::walk(st, table, keys, lists, name);
+    let met = w.met;
+    match met {
+        Met::Damaged => Appended::Declined(st, 4),
+        Met::Standing(at) => append_standing(st, table, keys, lists, at, bytes),
+        Met::Empty => append_new(st, table, keys, lists, name, bytes),
+        Met::Lap => append_after_lap(st, table, keys, lists, name, bytes),
+    }
+}
