@@ -1,4 +1,3 @@
 pub mod Header
 pub mod Append
 pub mod Blocks
-pub mod Cases

@@ -4,3 +4,4 @@ pub mod Whole
 pub mod Cases
 pub mod Fair
 pub mod Found
+pub mod Kept

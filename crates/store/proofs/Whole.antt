@@ -6,18 +6,19 @@ use native.Mathlib.Omega.{arith}
 use mathlib.Core.List.{List}
 use lib.Dec.{leb, ltb, eqb}
 use lib.ListN.{length}
-use borrow.Author.Tests.{le-leb, leb-true, eq-eqb, eqb-true}
-use Rattle.limits.specs.Limits.{wordLimit, bucketLimit, arenaLimit}
+use borrow.Author.Tests.{le-leb, leb-true, ltb-true, eq-eqb, eqb-true}
+use Rattle.limits.specs.Limits.{pageSize, wordLimit, bucketLimit, arenaLimit}
 use Rattle.numbers.proofs.Tests.{both, both-true}
 use Rattle.memory_arena.specs.Pages.{lendable}
 use Rattle.memory_arena.specs.Calls.{sensible}
+use Rattle.memory_arena.proofs.Laws.{sensible-made, standing-made}
 use Rattle.shared_arena_hashmap.specs.Power.{roundedDown, powerOfTwo, grownLength}
 use Rattle.shared_arena_hashmap.specs.Buckets.{firstBucket, cleared}
 use Rattle.shared_arena_hashmap.proofs.Laws.{power-facts}
 use Rattle.store.specs.declared.State.{State}
 use Rattle.store.specs.declared.Created.the-variants.{Made, Barred}
 use Rattle.store.specs.Append.{roomToGrow, isSaturated, grows, grownState, stateGrown}
-use Rattle.store.specs.Create.{out, creatable, freshState, createOf}
+use Rattle.store.specs.Create.{out, creatable, unused, freshState, createOf}
 use Rattle.store.specs.State.{lentBuckets, wordsTaken, lengthsEqual, tableFits, wholeState, firstOf}
 
 -- the check, clause by clause
@@ -109,15 +110,32 @@ grown-stands st w h = go (grows st) refl
 
 -- ---- creation
 
-pub creatable-room : (capacity words keyBytes listBytes : ℕ) → creatable capacity words keyBytes listBytes ≡ true → 2 * (0 + roundedDown capacity) ≤ words
+-- what creation takes, clause by clause
+pub record Creatable (capacity words keyBytes listBytes : ℕ) : Type 0 where
+  pub some : 0 < capacity
+  pub key-pages : lendable arenaLimit keyBytes ≡ true
+  pub list-pages : lendable arenaLimit listBytes ≡ true
+  pub taken : wordsTaken words ≡ true
+  pub buckets-le : roundedDown capacity ≤ lentBuckets words
+
+pub creatable-facts : (capacity words keyBytes listBytes : ℕ) → creatable capacity words keyBytes listBytes ≡ true → Creatable capacity words keyBytes listBytes
 unfolding creatable
-creatable-room c w k l e =
+creatable-facts c w k l e =
     let p = both (ltb 0 c) (lendable arenaLimit k && (lendable arenaLimit l && (wordsTaken w && leb (roundedDown c) (lentBuckets w)))) e in
     let q = both (lendable arenaLimit k) (lendable arenaLimit l && (wordsTaken w && leb (roundedDown c) (lentBuckets w))) (p .1) in
     let r = both (lendable arenaLimit l) (wordsTaken w && leb (roundedDown c) (lentBuckets w)) (q .1) in
     let s = both (wordsTaken w) (leb (roundedDown c) (lentBuckets w)) (r .1) in
-    let h : roundedDown c ≤ lentBuckets w = leb-true _ _ (s .1) in
-    omega arith
+    record { some = ltb-true _ _ (p .0); key-pages = q .0; list-pages = r .0; taken = s .0; buckets-le = leb-true _ _ (s .1) }
+
+pub creatable-room : (capacity words keyBytes listBytes : ℕ) → creatable capacity words keyBytes listBytes ≡ true → 2 * (0 + roundedDown capacity) ≤ words
+creatable-room c w k l e = omega (arith, creatable-facts c w k l e .buckets-le)
+
+-- an arena with nothing used is a sensible one
+pub unused-sensible : (len : ℕ) → lendable arenaLimit len ≡ true → sensible unused len ≡ true
+unused-sensible len e =
+    let p = both (ltb 0 len) (leb len arenaLimit) e in
+    let z : 0 < len = ltb-true _ _ (p .0) in
+    sensible-made unused len (record { some-bytes = p .0; short = p .1; stands = standing-made pageSize unused len (record { exists = omega arith; in-page = omega arith; in-memory = omega arith }) })
 
 pub create-made : (capacity seed : ℕ) (table : List ℕ) (keyBytes listBytes : ℕ) → creatable capacity (length table) keyBytes listBytes ≡ true
     → createOf capacity seed table keyBytes listBytes

@@ -1,2 +1,1 @@
 pub mod Vint
-pub mod Cases

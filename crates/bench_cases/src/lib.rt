@@ -1,0 +1,4 @@
+// The twelve bench cases of document 01 that are marked P, proved together: specs/Bench.antt has one table and one statement.
+//
+// It promises that the definitions which the contracts cite give the paper's values; it has no function. It uses limits, murmurhash2, vint,
+// memory_arena, shared_arena_hashmap, expull and store.

@@ -1,0 +1,219 @@
+-- An accepted creation or append gives a state that passes the whole-state check, on any memory, or the next call would be refused for what this one did.
+-- Assumes nothing.
+use Prim.Native.Nat.{ℕ, zero, suc, _+_, _*_, _/_, _≤_, _<_}
+use mathlib.Core.Path.{_≡_, refl, sym, ap, _∙_, subst}
+use mathlib.Core.Bool.{Bool, true, false, cond, _&&_, not}
+use mathlib.Core.Option.{Option, none, some}
+use mathlib.Core.List.{List}
+use native.Mathlib.Omega.{arith}
+use lib.Dec.{leb}
+use lib.ListN.{length}
+use borrow.Author.Tests.{leb-true, leb-false}
+use Rattle.limits.specs.Limits.{pageSize, nameLimit, recordExtra, bucketLimit}
+use Rattle.numbers.proofs.Tests.{both, not-both}
+use Rattle.spans.specs.Span.{overwrite}
+use Rattle.spans.proofs.Laws.{length-overwrite}
+use Rattle.murmurhash2.specs.Murmur.{murmurHash2}
+use Rattle.memory_arena.specs.declared.Arena.{Arena}
+use Rattle.memory_arena.specs.declared.Allocated.{Allocated}
+use Rattle.memory_arena.specs.declared.Allocated.the-variants.{At, NoRoom, Refused}
+use Rattle.memory_arena.specs.Pages.{roomFor}
+use Rattle.memory_arena.specs.Calls.{sensible}
+use Rattle.memory_arena.proofs.Laws.{sensible-facts, sensible-made, room-standing}
+use Rattle.shared_arena_hashmap.specs.declared.Met.{Met}
+use Rattle.shared_arena_hashmap.specs.declared.Met.the-variants.{Empty, Standing, Damaged, Lap}
+use Rattle.shared_arena_hashmap.specs.Power.{roundedDown, powerOfTwo, grownLength}
+use Rattle.shared_arena_hashmap.specs.Buckets.{cleared}
+use Rattle.shared_arena_hashmap.specs.Probe.{valuePlace}
+use Rattle.shared_arena_hashmap.specs.Grow.{entered, grown}
+use Rattle.shared_arena_hashmap.proofs.Laws.{rounded-is-power, grown-is-power, length-cleared, length-entered, length-grown}
+use Rattle.expull.specs.Header.{fresh, headerBytes, soundHeader}
+use Rattle.expull.specs.Append.{Writing, writing, appended, goodTail}
+use Rattle.expull.proofs.Laws.Append.{appended-length, appended-sensible}
+use Rattle.store.specs.declared.State.{State}
+use Rattle.store.specs.declared.Created.the-variants.{Made, Barred}
+use Rattle.store.specs.declared.Appended.the-variants.{Accepted, Declined}
+use Rattle.store.specs.Create.{out as Create·out, creatable, freshState, createOf}
+use Rattle.store.specs.State.{wordsTaken, firstOf}
+use Rattle.store.specs.Look.{Lent, lent, checked, walkOf, headerOf, headerSound}
+use Rattle.store.specs.Append.{Out, out, declined, isSaturated, roomToGrow, isCrowded, grows, grownState, stateGrown, tableGrown, movedState, recordBytes, standingWritten, appendStanding, newWritten, onKeyRoom, appendNew, onMet, appendOf}
+use Rattle.store.proofs.Whole.{Whole, whole-facts, whole-made, Growable, growable, grown-stands, creatable-facts, unused-sensible}
+use Rattle.store.proofs.Cases.{state-stays, state-grows, stays-unsaturated, stays-crowded, does-grow}
+
+-- ---- growth
+
+-- what a state has become by growing its table, or by not growing it
+pub record Grown (st s : State) : Type 0 where
+  pub words-same : s .words ≡ st .words
+  pub keys-same : s .«key_bytes» ≡ st .«key_bytes»
+  pub lists-same : s .«list_bytes» ≡ st .«list_bytes»
+  pub power : powerOfTwo (s .buckets) ≡ true
+  pub no-less : st .buckets ≤ s .buckets
+  pub one-more : isCrowded st ≡ false → st .keys + 1 ≤ s .buckets
+
+pub grown-state : (st : State) (w : ℕ) → Growable st w → powerOfTwo (st .buckets) ≡ true → Grown st (stateGrown st)
+grown-state st w h p = go (isSaturated st) refl (roomToGrow st) refl
+  where
+    stays : grows st ≡ false → (isCrowded st ≡ false → st .keys + 1 ≤ st .buckets) → Grown st (stateGrown st)
+    stays e k =
+        subst (Grown st) (sym (state-stays st e))
+        (record { words-same = refl; keys-same = refl; lists-same = refl; power = p; no-less = omega arith; one-more = k })
+
+    go : (a : Bool) → isSaturated st ≡ a → (b : Bool) → roomToGrow st ≡ b → Grown st (stateGrown st)
+    go true e true f =
+        subst (Grown st) (sym (state-grows st (does-grow st e f)))
+        (record {
+          words-same = refl;
+          keys-same = refl;
+          lists-same = refl;
+          power = grown-is-power (st .buckets) p (h .few);
+          no-less = omega arith;
+          one-more = λ k. omega (arith, h .keys-le);
+        })
+    go true e false f = stays (stays-crowded st f) (λ k. not-both (isCrowded st) (rw (e, f)) k)
+    go false e b f =
+        let k : 2 * st .keys < st .buckets = leb-false _ _ e in
+        stays (stays-unsaturated st e) (λ z. omega arith)
+
+-- ---- what an append leaves
+
+-- an append that was accepted has left a whole state
+Keeps : Out → Type 0
+Keeps o = (s : State) → o .answer ≡ Accepted s → checked s (o .memory) ≡ true
+
+keeps-declined : (st : State) (m : Lent) (n : ℕ) → Keeps (declined st m n)
+unfolding Keeps
+keeps-declined st m n s e = let z : _≡_ {A = ℕ} 0 1 = cc in absurd (omega arith)
+
+keeps-cond : (b : Bool) (x y : Out) → (b ≡ true → Keeps x) → (b ≡ false → Keeps y) → Keeps (cond b x y)
+keeps-cond true x y p q = p refl
+keeps-cond false x y p q = q refl
+
+module _ (st : State) (m : Lent) (c : checked st m ≡ true) where
+  w : Whole st (length (m .table)) (length (m .keys)) (length (m .lists))
+  w = whole-facts st (length (m .table)) (length (m .keys)) (length (m .lists)) c
+
+  g : Growable st (length (m .table))
+  g = growable st (length (m .table)) (length (m .keys)) (length (m .lists)) w
+
+  long-table : length (tableGrown st (m .table)) ≡ length (m .table)
+  unfolding tableGrown
+  long-table = go (grows st)
+    where
+      go : (b : Bool) → length (cond b (grown (st .buckets) (firstOf st) (firstOf (grownState st)) (grownLength (st .buckets)) (m .table)) (m .table)) ≡ length (m .table)
+      go true = length-grown (st .buckets) (firstOf st) (firstOf (grownState st)) (grownLength (st .buckets)) (m .table)
+      go false = refl
+
+  -- the state and the memory put together
+  left : (keys : ℕ) (a b : Arena) (t k l : List ℕ) → keys ≤ stateGrown st .buckets → sensible a (length (m .keys)) ≡ true → sensible b (length (m .lists)) ≡ true
+      → length t ≡ length (m .table) → length k ≡ length (m .keys) → length l ≡ length (m .lists)
+      → checked (movedState (stateGrown st) keys a b) (lent t k l) ≡ true
+  left keys a b t k l n p q x y z =
+      let G = grown-state st (length (m .table)) g (w .power) in
+      let S = grown-stands st (length (m .table)) g in
+      whole-made (movedState (stateGrown st) keys a b) (length t) (length k) (length l)
+      (record {
+        words-is = S .1 .1 ∙ sym x;
+        key-bytes-is = G .keys-same ∙ w .key-bytes-is ∙ sym y;
+        list-bytes-is = G .lists-same ∙ w .list-bytes-is ∙ sym z;
+        taken = subst (λ (j : ℕ). wordsTaken j ≡ true) (sym x) (w .taken);
+        power = G .power;
+        buckets-le = subst (λ (j : ℕ). stateGrown st .buckets ≤ j / 2) (S .1 .1 ∙ sym x) (S .1 .0);
+        keys-le = n;
+        key-arena = subst (λ (j : ℕ). sensible a j ≡ true) (sym y) p;
+        list-arena = subst (λ (j : ℕ). sensible b j ≡ true) (sym z) q;
+      })
+
+  keeps-standing-written : (at : ℕ) (bytes : List ℕ) (x : Option Writing) → appended bytes (writing (m .lists) (st .«list_arena») (headerOf (m .keys) at)) ≡ x
+      → Keeps (standingWritten x st m at)
+  unfolding standingWritten Keeps
+  keeps-standing-written at bytes none e s f = keeps-declined st m 7 s f
+  keeps-standing-written at bytes (some v) e s f =
+      let q : movedState (stateGrown st) (st .keys) (st .«key_arena») (v .arena) ≡ s = cc in
+      let G = grown-state st (length (m .table)) g (w .power) in
+      let k : List ℕ = overwrite (valuePlace (m .keys) at) (headerBytes (v .header)) (m .keys) in
+      subst (λ (r : State). checked r (lent (tableGrown st (m .table)) k (v .memory)) ≡ true) q
+      (left (st .keys) (st .«key_arena») (v .arena) (tableGrown st (m .table)) k (v .memory) (omega (arith, w .keys-le, G .no-less)) (w .key-arena)
+      (appended-sensible bytes (writing (m .lists) (st .«list_arena») (headerOf (m .keys) at)) v (w .list-arena) e) long-table
+      (length-overwrite (valuePlace (m .keys) at) (headerBytes (v .header)) (m .keys))
+      (appended-length bytes (writing (m .lists) (st .«list_arena») (headerOf (m .keys) at)) v e))
+
+  keeps-standing : (at : ℕ) (bytes : List ℕ) → Keeps (appendStanding st m at bytes)
+  unfolding appendStanding
+  keeps-standing at bytes =
+      keeps-cond (headerSound (m .keys) at && goodTail (st .«list_arena») (headerOf (m .keys) at)) _ _
+      (λ e. keeps-standing-written at bytes (appended bytes (writing (m .lists) (st .«list_arena») (headerOf (m .keys) at))) refl) (λ e. keeps-declined st m 4)
+
+  keeps-new-written : (name bytes : List ℕ) (at : ℕ) (a : Arena) → isCrowded st ≡ false → sensible a (length (m .keys)) ≡ true
+      → (x : Option Writing) → appended bytes (writing (m .lists) (st .«list_arena») fresh) ≡ x → Keeps (newWritten x st m name at a)
+  unfolding newWritten Keeps
+  keeps-new-written name bytes at a r k none e s f = keeps-declined st m 7 s f
+  keeps-new-written name bytes at a r k (some v) e s f =
+      let q : movedState (stateGrown st) (st .keys + 1) a (v .arena) ≡ s = cc in
+      let G = grown-state st (length (m .table)) g (w .power) in
+      let h : ℕ = murmurHash2 (st .seed) name in
+      let t : List ℕ = entered (firstOf (stateGrown st)) (stateGrown st .buckets) at h (tableGrown st (m .table)) in
+      let n : List ℕ = overwrite at (recordBytes name (v .header)) (m .keys) in
+      subst (λ (r : State). checked r (lent t n (v .memory)) ≡ true) q
+      (left (st .keys + 1) a (v .arena) t n (v .memory) (G .one-more r) k (appended-sensible bytes (writing (m .lists) (st .«list_arena») fresh) v (w .list-arena) e)
+      (length-entered (firstOf (stateGrown st)) (stateGrown st .buckets) at h (tableGrown st (m .table)) ∙ long-table)
+      (length-overwrite at (recordBytes name (v .header)) (m .keys)) (appended-length bytes (writing (m .lists) (st .«list_arena») fresh) v e))
+
+  keeps-room : (name bytes : List ℕ) → isCrowded st ≡ false → (r : Allocated) → roomFor pageSize (st .«key_arena») (length (m .keys)) (length name + recordExtra) ≡ r
+      → Keeps (onKeyRoom r st m name bytes)
+  unfolding onKeyRoom
+  keeps-room name bytes e (At at a) f =
+      let k = sensible-facts (st .«key_arena») (length (m .keys)) (w .key-arena) in
+      let s = room-standing pageSize (st .«key_arena») (length (m .keys)) (length name + recordExtra) at a (omega arith) (k .stands) f in
+      keeps-new-written name bytes at a e (sensible-made a (length (m .keys)) (record { some-bytes = k .some-bytes; short = k .short; stands = s }))
+      (appended bytes (writing (m .lists) (st .«list_arena») fresh)) refl
+  keeps-room name bytes e NoRoom f = keeps-declined st m 6
+  keeps-room name bytes e (Refused n) f = keeps-declined st m 6
+
+  keeps-new : (name bytes : List ℕ) → Keeps (appendNew st m name bytes)
+  unfolding appendNew
+  keeps-new name bytes =
+      keeps-cond (isCrowded st) _ _ (λ e. keeps-declined st m 5)
+      (λ e. keeps-room name bytes e (roomFor pageSize (st .«key_arena») (length (m .keys)) (length name + recordExtra)) refl)
+
+  keeps-met : (name bytes : List ℕ) (x : Met) → Keeps (onMet x st m name bytes)
+  unfolding onMet
+  keeps-met name bytes Damaged = keeps-declined st m 4
+  keeps-met name bytes (Standing at) = keeps-standing at bytes
+  keeps-met name bytes Empty = keeps-new name bytes
+  keeps-met name bytes Lap = keeps-cond (isSaturated st) _ _ (λ e. keeps-new name bytes) (λ e. keeps-declined st m 4)
+
+-- every accepted append
+pub append-whole : (st : State) (m : Lent) (name bytes : List ℕ) (s : State) → appendOf st m name bytes .answer ≡ Accepted s → checked s (appendOf st m name bytes .memory) ≡ true
+unfolding appendOf Keeps
+append-whole st m name bytes =
+    keeps-cond (checked st m) _ _
+    (λ c. keeps-cond (leb (length name) nameLimit) _ _ (λ e. keeps-met st m c name bytes (walkOf st m name .met)) (λ e. keeps-declined st m 3)) (λ e. keeps-declined st m 2)
+
+-- ---- creation
+
+pub create-whole : (capacity seed : ℕ) (table keys lists : List ℕ) (s : State) → createOf capacity seed table (length keys) (length lists) .answer ≡ Made s
+    → checked s (lent (createOf capacity seed table (length keys) (length lists) .table) keys lists) ≡ true
+unfolding createOf
+create-whole capacity seed table keys lists s = go (creatable capacity (length table) (length keys) (length lists)) refl
+  where
+    go : (b : Bool) → creatable capacity (length table) (length keys) (length lists) ≡ b
+        → cond b (Create·out (Made (freshState seed (length table) (length keys) (length lists) (roundedDown capacity))) (cleared 0 (roundedDown capacity) table)) (Create·out (Barred 1) table) .answer ≡ Made s
+        → checked s (lent (cond b (Create·out (Made (freshState seed (length table) (length keys) (length lists) (roundedDown capacity))) (cleared 0 (roundedDown capacity) table)) (Create·out (Barred 1) table) .table) keys lists) ≡ true
+    go true c e =
+        let q : freshState seed (length table) (length keys) (length lists) (roundedDown capacity) ≡ s = cc in
+        let f = creatable-facts capacity (length table) (length keys) (length lists) c in
+        let n = length-cleared 0 (roundedDown capacity) table in
+        subst (λ (r : State). checked r (lent (cleared 0 (roundedDown capacity) table) keys lists) ≡ true) q
+        (whole-made _ _ _ _ (record {
+          words-is = sym n;
+          key-bytes-is = refl;
+          list-bytes-is = refl;
+          taken = subst (λ (j : ℕ). wordsTaken j ≡ true) (sym n) (f .taken);
+          power = rounded-is-power capacity;
+          buckets-le = subst (λ (j : ℕ). roundedDown capacity ≤ j / 2) (sym n) (f .buckets-le);
+          keys-le = omega arith;
+          key-arena = unused-sensible (length keys) (f .key-pages);
+          list-arena = unused-sensible (length lists) (f .list-pages);
+        }))
+    go false c e = let z : _≡_ {A = ℕ} 0 1 = cc in absurd (omega arith)
