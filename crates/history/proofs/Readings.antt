@@ -1,0 +1,156 @@
+-- What the calls that change nothing answer in a sound store: of a name that stands its bytes, of any other that it is absent. Assumes nothing.
+use Prim.Native.Nat.{ℕ, zero, suc, _+_, _-_, _≤_, _<_}
+use mathlib.Core.Path.{_≡_, refl, sym, ap, _∙_, subst}
+use mathlib.Core.Logic.{_⊎_, ⊎-elim}
+use mathlib.Core.Bool.{Bool, true, false, cond}
+use mathlib.Core.Option.{Option, none, some}
+use mathlib.Core.List.{List, _++_}
+use native.Mathlib.Nat.{le-refl}
+use native.Mathlib.Omega.{arith}
+use lib.Dec.{leb}
+use lib.ListN.{length}
+use borrow.Author.Tests.{le-leb, lt-leb}
+use Rattle.limits.specs.Limits.{nameLimit}
+use Rattle.numbers.proofs.Tests.{both-true, cond-true}
+use Rattle.spans.specs.Span.{readSpan, overwrite}
+use Rattle.shared_arena_hashmap.specs.declared.Met.the-variants.{Empty, Standing, Lap}
+use Rattle.expull.specs.declared.Header.{Header}
+use Rattle.expull.specs.declared.Block.{Block as Found·Block}
+use Rattle.expull.specs.declared.Block.the-variants.{NoBlock}
+use Rattle.expull.specs.Header.{laneLength, blockCount}
+use Rattle.expull.specs.Blocks.{goodBlocks, laneBytes, blockPlace, blockLength, blockOf}
+use Rattle.store.specs.declared.State.{State}
+use Rattle.store.specs.declared.Lookup.{Lookup}
+use Rattle.store.specs.declared.Lookup.the-variants.{At, Missing}
+use Rattle.store.specs.declared.Answer.the-variants.{Found, Refused}
+use Rattle.store.specs.declared.Outcome.the-variants.{Length, Reading, Block, NoSuchBlock}
+use Rattle.store.specs.Look.{Lent, lookupOf, onLookup, onLookupRead, headerOf, lengthAt, lengthOf, reading, blocksSound, readAt, readOf, onBlock, blockAt, findBlockOf}
+use Rattle.store.proofs.Found.{lookup-met, Headed, length-found, length-at, block-found, block-at, show-part}
+use Rattle.history_lanes.specs.Lane.{Lane, pieces}
+use Rattle.history_lanes.proofs.Readings.{lane-blocks, lane-reads, lane-length, lane-block, lane-no-block, lane-pieces}
+use Rattle.history.specs.History.{World}
+use Rattle.history.specs.Promises.{shownOf, shownBlocks, blocksFor, ReadsBack, ReadsAbsent, ReadsAs}
+use Rattle.history.specs.Sound.{Ghosts, Stands, Sound, bytesOf}
+use Rattle.history.proofs.Records.{record-key}
+use Rattle.history.proofs.Shape.{lane-blocks-for, lane-room-for}
+use Rattle.history.proofs.Answers.{fits, header-is, header-fine, walk-finds, walk-misses}
+use Rattle.history.proofs.Told.{Says}
+
+module _ {w : World} {G : Ghosts} (S : Sound w G) (name : List ℕ) where
+  abbrev st : State
+  st = w .state
+
+  abbrev m : Lent
+  m = w .memory
+
+  -- ---- a name that stands
+
+  module _ (M : Stands G name) where
+    abbrev at : ℕ
+    at = G .place name
+
+    abbrev h : Header
+    h = G .header name
+
+    abbrev bs : List ℕ
+    bs = bytesOf w G name
+
+    lane : Lane (m .lists) (st .«list_arena») h (G .blocks name)
+    lane = S .lanes name M
+
+    pub lookup-finds : lookupOf st m name ≡ At at
+    lookup-finds = lookup-met st m name (Standing at) (S .whole) (S .records name M .short) (walk-finds S name M)
+
+    headed : Headed (m .keys) at h
+    headed = record { sound = header-fine S name M; is = sym (header-is S name M); ends = fits S name M .sound }
+
+    long : laneLength h ≡ length bs
+    long = lane-length (m .lists) (st .«list_arena») h (G .blocks name) lane
+
+    bytes : laneBytes (m .lists) h ≡ bs
+    bytes = lane-reads (m .lists) (st .«list_arena») h (G .blocks name) lane
+
+    blocks-fine : blocksSound st m at ≡ true
+    unfolding blocksSound
+    blocks-fine =
+        both-true _ _ (header-fine S name M)
+        (ap (λ (g : Header). goodBlocks (st .«list_arena») (m .lists) (g .head) (blockCount g)) (header-is S name M)
+        ∙ lane-blocks (m .lists) (st .«list_arena») h (G .blocks name) lane (blockCount h) (le-refl (blockCount h)))
+
+    long-there : laneLength (headerOf (m .keys) at) ≡ length bs
+    long-there = ap laneLength (header-is S name M) ∙ long
+
+    -- a reading, by the output's length
+    reads-at : (output : List ℕ) (b : Bool) → leb (laneLength (headerOf (m .keys) at)) (length output) ≡ b
+        → readOf st m name output
+        ≡ cond b (reading (Found (Reading (length bs))) (overwrite 0 bs output)) (reading (Refused 8 (length bs)) output)
+    unfolding readOf readAt
+    reads-at output b e =
+        ap (λ (l : Lookup). onLookupRead l (λ at. readAt st m at output) output) lookup-finds
+        ∙ cond-true (blocksSound st m at) _ _ blocks-fine
+        ∙ (λ i. cond (e i)
+        (reading (Found (Reading (long-there i)))
+        (overwrite 0 ((ap (laneBytes (m .lists)) (header-is S name M) ∙ bytes) i) output))
+        (reading (Refused 8 (long-there i)) output))
+
+    -- a block
+    block-said : (i : ℕ) (b : Found·Block) → blockOf (st .«list_arena») (m .lists) h i ≡ b → findBlockOf st m name i ≡ onBlock b
+    block-said i b e = sym (block-at st m name i at lookup-finds) ∙ block-found st m i at h headed ∙ ap onBlock e
+
+    pub block-there : (i : ℕ) → i < blockCount h → findBlockOf st m name i ≡ Found (Block (blockPlace (m .lists) (h .head) i) (blockLength h i))
+    block-there i l = block-said i _ (lane-block (m .lists) (st .«list_arena») h (G .blocks name) lane i l .told)
+
+    pub block-past : (i : ℕ) → blockCount h ≤ i → findBlockOf st m name i ≡ Found NoSuchBlock
+    block-past i l = block-said i NoBlock (lane-no-block (m .lists) (st .«list_arena») h i l)
+
+    shown : (k : ℕ) → k ≤ blockCount h → shownBlocks w name k ≡ pieces (m .lists) h k
+    unfolding shownBlocks
+    shown zero l = refl
+    shown (suc k) l = λ i. shown k (omega arith) i ++ one i
+      where
+        one : shownOf w (findBlockOf st m name k) ≡ readSpan (blockPlace (m .lists) (h .head) k) (blockLength h k) (m .lists)
+        one =
+            ap (shownOf w) (block-there k l)
+            ∙ show-part st m (blockPlace (m .lists) (h .head) k) (blockLength h k) (S .whole)
+            (lane-block (m .lists) (st .«list_arena») h (G .blocks name) lane k l .good)
+
+    count : blockCount h ≡ blocksFor (length bs)
+    count = lane-blocks-for (m .lists) (st .«list_arena») h (G .blocks name) lane
+
+    pub reads-standing : ReadsBack w name bs
+    reads-standing = record {
+      place = at;
+      found = lookup-finds;
+      named = record-key (S .records name M);
+      read = λ output l. reads-at output true (le-leb (laneLength (headerOf (m .keys) at)) (length output) (omega (arith, long-there)));
+      unread = λ output l. reads-at output false (lt-leb (laneLength (headerOf (m .keys) at)) (length output) (omega (arith, long-there)));
+      measured = sym (length-at st m name at lookup-finds) ∙ length-found (m .keys) at h headed ∙ ap (λ (n : ℕ). Found (Length n)) long;
+      block = λ i l. (blockPlace (m .lists) (h .head) i, blockLength h i, block-there i (omega (arith, count)));
+      blocks =
+          ap (shownBlocks w name) (sym count) ∙ shown (blockCount h) (le-refl (blockCount h))
+          ∙ lane-pieces (m .lists) (st .«list_arena») h (G .blocks name) lane;
+      no-block = λ i l. block-past i (omega (arith, count));
+      length-rule = long-there;
+      blocks-few = rw (header-is S name M) (omega (arith, fits S name M .few));
+      room-bound = lane-room-for (m .lists) (st .«list_arena») h (G .blocks name) lane;
+    }
+
+  -- ---- any other
+
+  module _ (short : length name ≤ nameLimit) (M : Stands G name → ⊥) where
+    unlooked : lookupOf st m name ≡ Missing
+    unlooked =
+        ⊎-elim (λ e. lookup-met st m name Empty (S .whole) short e) (λ e. lookup-met st m name Lap (S .whole) short (e .0)) (walk-misses S name M)
+
+    pub reads-absent : ReadsAbsent w name
+    unfolding readOf lengthOf findBlockOf
+    reads-absent = record {
+      missed = unlooked;
+      unread = λ output. ap (λ (l : Lookup). onLookupRead l (λ at. readAt st m at output) output) unlooked;
+      unmeasured = ap (λ (l : Lookup). onLookup l (lengthAt (m .keys))) unlooked;
+      no-block = λ i. ap (λ (l : Lookup). onLookup l (blockAt st m i)) unlooked;
+    }
+
+  pub reads-as : length name ≤ nameLimit → (o : Option (List ℕ)) → Says w G name o → ReadsAs w name o
+  reads-as short none s = reads-absent short s
+  reads-as short (some bs) s = subst (ReadsBack w name) (s .1) (reads-standing (s .0))
