@@ -1,6 +1,6 @@
 -- What a sound store answers to an append: the number it is due, or acceptance. Assumes nothing.
 use Prim.Native.Nat.{ℕ, _+_, _-_, _*_, _≤_, _<_}
-use mathlib.Core.Path.{_≡_, refl, ap, _∙_}
+use mathlib.Core.Path.{_≡_, refl, ap, _∙_, subst}
 use mathlib.Core.Logic.{_⊎_, inl, inr, ⊎-elim}
 use mathlib.Core.Bool.{Bool, true, false, cond}
 use mathlib.Core.Option.{Option, none, some}
@@ -19,9 +19,10 @@ use Rattle.expull.specs.declared.Header.{Header}
 use Rattle.expull.specs.Header.{fresh}
 use Rattle.expull.specs.Append.{Writing, writing, appended, goodTail}
 use Rattle.store.specs.declared.Appended.the-variants.{Accepted}
-use Rattle.store.specs.Look.{walkOf, headerOf, headerSound}
-use Rattle.store.specs.Append.{out, declined, isSaturated, isCrowded, standingWritten, newWritten, onKeyRoom, appendNew}
+use Rattle.store.specs.Look.{Lent, checked, walkOf, headerOf, headerSound}
+use Rattle.store.specs.Append.{Out, out, declined, isSaturated, isCrowded, standingWritten, newWritten, onKeyRoom, appendNew}
 use Rattle.store.proofs.Cases.{append-3, append-met, met-standing, met-empty, met-lap, new-5, new-room, standing-on}
+use Rattle.store.proofs.Kept.{append-whole}
 use Rattle.history_lanes.specs.Lane.{arenaOf, HeaderFits}
 use Rattle.history_lanes.proofs.Readings.{lane-header, lane-tail}
 use Rattle.history_lanes.proofs.Plan.{lane-plan}
@@ -81,6 +82,12 @@ module _ {w : World} {G : Ghosts} (S : Sound w G) (name bytes : List ℕ) where
   pub answers-long : nameLimit < length name → Declines w name bytes 3
   answers-long h = record { some-number = λ z. omega arith; said = append-3 (w .state) (w .memory) name bytes (S .whole) h }
 
+  -- what is accepted passes the next call's check
+  accepted-whole : (v : World) → appendIn w name bytes ≡ out (Accepted (v .state)) (v .memory) → checked (v .state) (v .memory) ≡ true
+  accepted-whole v p =
+      subst (λ (m : Lent). checked (v .state) m ≡ true) (ap (λ (o : Out). o .memory) p)
+      (append-whole (w .state) (w .memory) name bytes (v .state) (ap (λ (o : Out). o .answer) p))
+
   module _ (short : length name ≤ nameLimit) where
     -- a standing name
     answers-written : (M : Stands G name) (o : Option Writing)
@@ -90,7 +97,7 @@ module _ {w : World} {G : Ghosts} (S : Sound w G) (name bytes : List ℕ) where
     unfolding standingWritten
     answers-written M none e p = inl (record { some-number = λ z. omega arith; said = p })
     answers-written M (some v) e p =
-        inr (record { no-number = refl; world = standing-left S name bytes M v e; said = p; took = took-standing S name bytes M v e })
+        inr (record { no-number = refl; world = standing-left S name bytes M v e; said = p; took = took-standing S name bytes M v e (accepted-whole (standing-left S name bytes M v e) p) })
 
     pub answers-standing : Stands G name → Answers w G name bytes (dueList (w .state) (w .memory) (G .header name) (length bytes))
     unfolding dueList
@@ -127,7 +134,7 @@ module _ {w : World} {G : Ghosts} (S : Sound w G) (name bytes : List ℕ) where
             no-number = refl;
             world = new-left S name bytes M short loose at ka r v e;
             said = p;
-            took = took-new S name bytes M short loose at ka r v e;
+            took = took-new S name bytes M short loose at ka r v e (accepted-whole (new-left S name bytes M short loose at ka r v e) p);
           })
 
       new-roomed : (loose : isCrowded (w .state) ≡ false) (r : Allocated)

@@ -1,29 +1,22 @@
 -- What an accepted creation leaves is a sound store of no names, whatever the lent memory held. Assumes nothing.
-use Prim.Native.Nat.{ℕ, _<_}
+use Prim.Native.Nat.{ℕ}
 use mathlib.Core.Path.{_≡_, refl, sym, ap, _∙_, subst}
-use mathlib.Core.Bool.{Bool, true, false, _&&_}
+use mathlib.Core.Bool.{Bool, true, false}
 use mathlib.Core.Option.{none}
 use mathlib.Core.List.{List, []}
 use native.Mathlib.Omega.{arith}
-use lib.Dec.{leb, ltb}
 use lib.ListN.{length, replicate}
-use borrow.Author.Tests.{leb-true, ltb-true}
-use Rattle.limits.specs.Limits.{pageSize, arenaLimit}
-use Rattle.numbers.proofs.Tests.{both}
 use Rattle.murmurhash2.specs.Murmur.{murmurHash2}
-use Rattle.memory_arena.specs.Pages.{lendable}
-use Rattle.memory_arena.specs.Calls.{sensible}
-use Rattle.memory_arena.proofs.Laws.{standing-made, sensible-made}
 use Rattle.shared_arena_hashmap.specs.Power.{roundedDown}
 use Rattle.shared_arena_hashmap.specs.Buckets.{cleared}
-use Rattle.shared_arena_hashmap.proofs.Laws.{power-facts, rounded-is-power, length-cleared}
+use Rattle.shared_arena_hashmap.proofs.Laws.{power-facts, rounded-is-power}
 use Rattle.expull.specs.Header.{fresh}
 use Rattle.store.specs.declared.State.{State}
 use Rattle.store.specs.declared.Created.the-variants.{Made, Barred}
-use Rattle.store.specs.State.{lentBuckets, wordsTaken}
-use Rattle.store.specs.Create.{Out, out, creatable, unused, freshState}
+use Rattle.store.specs.Create.{Out, out, creatable, freshState}
 use Rattle.store.specs.Look.{lent, checked}
-use Rattle.store.proofs.Whole.{whole-made, creatable-room, create-made, create-barred}
+use Rattle.store.proofs.Whole.{creatable-room, create-made, create-barred}
+use Rattle.store.proofs.Kept.{create-whole}
 use Rattle.history_names.proofs.Grow.{clears, clears-none, clears-count}
 use Rattle.history.specs.History.{World, Born}
 use Rattle.history.specs.Sound.{Ghosts, Stands, Sound}
@@ -31,17 +24,6 @@ use Rattle.history.specs.Sound.{Ghosts, Stands, Sound}
 -- no names
 abbrev pub nobody : ℕ → Ghosts
 nobody l = record { names = replicate l none; place = λ k. 0; header = λ k. fresh; blocks = λ k. [] }
-
--- an arena of a length that creation takes, with nothing used
-sense-unused : (len : ℕ) → lendable arenaLimit len ≡ true → sensible unused len ≡ true
-sense-unused len e =
-    let p = both (ltb 0 len) (leb len arenaLimit) e in
-    let z : 0 < len = ltb-true _ _ (p .0) in
-    sensible-made unused len (record {
-      some-bytes = p .0;
-      short = p .1;
-      stands = standing-made pageSize unused len (record { exists = omega arith; in-page = omega arith; in-memory = omega arith });
-    })
 
 module _ (capacity seed : ℕ) (table keys lists : List ℕ) where
   abbrev l : ℕ
@@ -51,24 +33,10 @@ module _ (capacity seed : ℕ) (table keys lists : List ℕ) where
   start = record { state = freshState seed (length table) (length keys) (length lists) l; memory = lent (cleared 0 l table) keys lists }
 
   start-whole : creatable capacity (length table) (length keys) (length lists) ≡ true → checked (start .state) (start .memory) ≡ true
-  unfolding creatable
   start-whole e =
-      let w : ℕ = length table in
-      let p = both (ltb 0 capacity) (lendable arenaLimit (length keys) && (lendable arenaLimit (length lists) && (wordsTaken w && leb l (lentBuckets w)))) e in
-      let q = both (lendable arenaLimit (length keys)) (lendable arenaLimit (length lists) && (wordsTaken w && leb l (lentBuckets w))) (p .1) in
-      let r = both (lendable arenaLimit (length lists)) (wordsTaken w && leb l (lentBuckets w)) (q .1) in
-      let s = both (wordsTaken w) (leb l (lentBuckets w)) (r .1) in
-      rw (length-cleared 0 l table) (whole-made (start .state) w (length keys) (length lists) (record {
-        words-is = refl;
-        key-bytes-is = refl;
-        list-bytes-is = refl;
-        taken = s .0;
-        power = rounded-is-power capacity;
-        buckets-le = leb-true _ _ (s .1);
-        keys-le = omega arith;
-        key-arena = sense-unused (length keys) (q .0);
-        list-arena = sense-unused (length lists) (r .0);
-      }))
+      let p = create-made capacity seed table (length keys) (length lists) e in
+      subst (λ (t : List ℕ). checked (start .state) (lent t keys lists) ≡ true) (ap (λ (o : Out). o .table) p)
+      (create-whole capacity seed table keys lists (start .state) (ap (λ (o : Out). o .answer) p))
 
   start-sound : creatable capacity (length table) (length keys) (length lists) ≡ true → Sound start (nobody l)
   start-sound e = record {

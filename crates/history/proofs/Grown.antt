@@ -10,14 +10,13 @@ use borrow.Author.Tests.{leb-true, leb-false}
 use Rattle.numbers.proofs.Tests.{both}
 use Rattle.spans.specs.Span.{Apart}
 use Rattle.murmurhash2.specs.Murmur.{murmurHash2}
-use Rattle.shared_arena_hashmap.specs.Power.{powerOfTwo, grownLength}
+use Rattle.shared_arena_hashmap.specs.Power.{grownLength}
 use Rattle.shared_arena_hashmap.specs.Buckets.{firstBucket}
 use Rattle.shared_arena_hashmap.specs.Grow.{grown}
-use Rattle.shared_arena_hashmap.proofs.Laws.{grown-is-power, length-grown}
 use Rattle.store.specs.declared.State.{State}
 use Rattle.store.specs.State.{lentBuckets, firstOf}
 use Rattle.store.specs.Append.{roomToGrow, isSaturated, isCrowded, grows, grownState, stateGrown, tableGrown}
-use Rattle.store.proofs.Whole.{Whole, whole-facts, first-in, buckets-few, grown-fits}
+use Rattle.store.proofs.Whole.{Whole, whole-facts, first-in, grown-fits}
 use Rattle.store.proofs.Cases.{state-stays, state-grows, table-stays, table-grows}
 use Rattle.history_names.specs.Table.{Names, Member, occupied, Table}
 use Rattle.history_names.proofs.Grow.{grows as grows-names}
@@ -37,14 +36,8 @@ pub record Grew (w : World) (G : Ghosts) (st : State) (t : List ℕ) : Type 0 wh
   pub only : (k : List ℕ) → Member k names → Member k (G .names)
   pub many : occupied names ≡ w .state .keys
   pub seed-is : st .seed ≡ w .state .seed
-  pub words-is : st .words ≡ w .state .words
-  pub key-bytes-is : st .«key_bytes» ≡ w .state .«key_bytes»
-  pub list-bytes-is : st .«list_bytes» ≡ w .state .«list_bytes»
-  pub power : powerOfTwo (st .buckets) ≡ true
-  pub fits : st .buckets ≤ lentBuckets (w .state .words)
   pub half : 2 * w .state .keys ≤ st .buckets + 1
   pub room : isCrowded (w .state) ≡ false → 2 * w .state .keys < st .buckets
-  pub long : length t ≡ length (w .memory .table)
 
 -- neither grown nor crowded: not saturated
 loose : (s r : Bool) → (s && r) ≡ false → (s && not r) ≡ false → s ≡ false
@@ -60,7 +53,6 @@ ends-apart false t l l′ h = inl (omega arith)
 module _ {w : World} {G : Ghosts} (S : Sound w G) where
   stays : grows (w .state) ≡ false → Grew w G (w .state) (w .memory .table)
   stays e =
-      let W = sound-whole S in
       record {
         names = G .names;
         table = S .table;
@@ -68,14 +60,8 @@ module _ {w : World} {G : Ghosts} (S : Sound w G) where
         only = λ k m. m;
         many = sym (S .counted);
         seed-is = refl;
-        words-is = refl;
-        key-bytes-is = refl;
-        list-bytes-is = refl;
-        power = W .power;
-        fits = rw (W .words-is) (W .buckets-le);
         half = S .half;
         room = λ c. leb-false (w .state .buckets) (2 * w .state .keys) (loose (isSaturated (w .state)) (roomToGrow (w .state)) e c);
-        long = refl;
       }
 
   does : grows (w .state) ≡ true
@@ -96,14 +82,8 @@ module _ {w : World} {G : Ghosts} (S : Sound w G) where
         only = N .1 .only;
         many = N .1 .many ∙ sym (S .counted);
         seed-is = refl;
-        words-is = refl;
-        key-bytes-is = refl;
-        list-bytes-is = refl;
-        power = grown-is-power (st .buckets) (W .power) (buckets-few st (length (w .memory .table)) (length (w .memory .keys)) (length (w .memory .lists)) W);
-        fits = omega arith;
         half = omega (arith, S .half);
         room = λ c. omega (arith, S .half, S .table .some-bucket);
-        long = length-grown (st .buckets) (firstOf st) (firstOf (grownState st)) (grownLength (st .buckets)) (w .memory .table);
       }
 
   pub grew : Grew w G (stateGrown (w .state)) (tableGrown (w .state) (w .memory .table))

@@ -14,25 +14,23 @@ use Rattle.limits.specs.Limits.{pageSize, arenaLimit, nameLimit, recordExtra, v
 use Rattle.fastcmp.specs.Equal.{equalBytes}
 use Rattle.fastcmp.proofs.Laws.{equal-same, equal-not}
 use Rattle.spans.specs.Span.{overwrite, Apart}
-use Rattle.spans.proofs.Laws.{length-overwrite, read-apart}
+use Rattle.spans.proofs.Laws.{read-apart}
 use Rattle.murmurhash2.specs.Murmur.{murmurHash2}
 use Rattle.memory_arena.specs.declared.Arena.{Arena}
 use Rattle.memory_arena.specs.declared.Allocated.the-variants.{At}
 use Rattle.memory_arena.specs.Address.{placeOf}
 use Rattle.memory_arena.specs.Pages.{standing, roomFor}
-use Rattle.memory_arena.proofs.Laws.{place-of, standing-made, Room, room-facts, room-in, Sensible, sensible-facts, sensible-made}
+use Rattle.memory_arena.proofs.Laws.{place-of, Room, room-facts, room-in, Sensible, sensible-facts}
 use Rattle.shared_arena_hashmap.specs.Power.{grownLength}
 use Rattle.shared_arena_hashmap.specs.Probe.{valuePlace}
 use Rattle.shared_arena_hashmap.specs.Grow.{entered}
-use Rattle.shared_arena_hashmap.proofs.Laws.{length-entered}
 use Rattle.expull.specs.declared.Header.{Header}
 use Rattle.expull.specs.Header.{fresh, headerBytes}
 use Rattle.expull.specs.Append.{Writing, writing, appended}
 use Rattle.expull.proofs.Laws.Header.{header-length}
-use Rattle.store.specs.State.{lentBuckets, firstOf}
+use Rattle.store.specs.State.{firstOf}
 use Rattle.store.specs.Look.{lent, checked}
 use Rattle.store.specs.Append.{isCrowded, grows, grownState, stateGrown, tableGrown, movedState, recordBytes}
-use Rattle.store.proofs.Whole.{whole-made}
 use Rattle.store.proofs.Cases.{table-stays}
 use Rattle.history_lanes.specs.Lane.{content, TipClear, Lane, After}
 use Rattle.history_lanes.proofs.Blocks.{apart-within}
@@ -94,7 +92,7 @@ pub record Took (w : World) (G : Ghosts) (name bytes : List ℕ) (w′ : World) 
   pub fresh-one : (Stands G name → ⊥) → (bytesOf w′ ghosts name ≡ bytes) × (w′ .state .keys ≡ suc (w .state .keys))
   pub leaves : Leaves w G name bytes w′ ghosts
 
--- ---- the whole-state check
+-- ---- the arenas
 
 module _ {w : World} {G : Ghosts} (S : Sound w G) where
   key-sense : Sensible (w .state .«key_arena») (length (w .memory .keys))
@@ -114,24 +112,6 @@ module _ {w : World} {G : Ghosts} (S : Sound w G) where
 
   pub list-short : length (w .memory .lists) ≤ arenaLimit
   list-short = leb-true _ _ (list-sense .short)
-
-  whole-after : (n : ℕ) (ka la : Arena) (t k l : List ℕ) → Grew w G (stateGrown (w .state)) (tableGrown (w .state) (w .memory .table))
-      → n ≤ stateGrown (w .state) .buckets → standing pageSize ka (length (w .memory .keys)) ≡ true → standing pageSize la (length (w .memory .lists)) ≡ true
-      → length t ≡ length (w .memory .table) → length k ≡ length (w .memory .keys) → length l ≡ length (w .memory .lists)
-      → checked (movedState (stateGrown (w .state)) n ka la) (lent t k l) ≡ true
-  whole-after n ka la t k l E h p q x y z =
-      let W = sound-whole S in
-      rw (x, y, z) (whole-made (movedState (stateGrown (w .state)) n ka la) (length (w .memory .table)) (length (w .memory .keys)) (length (w .memory .lists)) (record {
-        words-is = E .words-is ∙ W .words-is;
-        key-bytes-is = E .key-bytes-is ∙ W .key-bytes-is;
-        list-bytes-is = E .list-bytes-is ∙ W .list-bytes-is;
-        taken = W .taken;
-        power = E .power;
-        buckets-le = subst (λ (n : ℕ). stateGrown (w .state) .buckets ≤ lentBuckets n) (W .words-is) (E .fits);
-        keys-le = h;
-        key-arena = sensible-made ka (length (w .memory .keys)) (record { some-bytes = key-sense .some-bytes; short = key-sense .short; stands = p });
-        list-arena = sensible-made la (length (w .memory .lists)) (record { some-bytes = list-sense .some-bytes; short = list-sense .short; stands = q });
-      }))
 
   -- ---- the lists
 
@@ -239,18 +219,15 @@ module _ {w : World} {G : Ghosts} (S : Sound w G) where
       table-grown = grown-words (w .state) (w .memory .table);
     }
 
-    standing-took : Grew w G (stateGrown (w .state)) (tableGrown (w .state) (w .memory .table)) → Took w G name bytes standing-left
-    standing-took E =
+    standing-took : checked (standing-left .state) (standing-left .memory) ≡ true → Grew w G (stateGrown (w .state)) (tableGrown (w .state) (w .memory .table))
+        → Took w G name bytes standing-left
+    standing-took whole E =
         let L = lists-after name bytes (G .header name) (G .blocks name) v (standing-after .0) (standing-after .1)
         (λ j f m. S .lanes-apart j name m M f) (E .names) (λ j m. inr (E .only j m)) in
         record {
           ghosts = standing-ghosts (E .names);
           sound = record {
-            whole =
-                whole-after (w .state .keys) (w .state .«key_arena») (v .arena) (tableGrown (w .state) (w .memory .table))
-                (overwrite (valuePlace (w .memory .keys) (G .place name)) (headerBytes (v .header)) (w .memory .keys)) (v .memory) E
-                (omega (arith, E .half, E .table .some-bucket)) key-stands (rw (← standing-after .1 .len) (standing-after .1 .lane .stands)) (E .long)
-                (length-overwrite (valuePlace (w .memory .keys) (G .place name)) (headerBytes (v .header)) (w .memory .keys)) (standing-after .1 .len);
+            whole = whole;
             table = rw (E .seed-is) (E .table);
             counted = sym (E .many);
             half = E .half;
@@ -268,8 +245,8 @@ module _ {w : World} {G : Ghosts} (S : Sound w G) where
           leaves = standing-leaves (E .names);
         }
 
-    pub took-standing : Took w G name bytes standing-left
-    took-standing = standing-took (grew S)
+    pub took-standing : checked (standing-left .state) (standing-left .memory) ≡ true → Took w G name bytes standing-left
+    took-standing whole = standing-took whole (grew S)
 
   -- ---- an append to a new name
 
@@ -352,8 +329,9 @@ module _ {w : World} {G : Ghosts} (S : Sound w G) where
       table-grown = grown-entered-words (w .state) (w .memory .table) at (murmurHash2 (w .state .seed) name);
     }
 
-    new-took : Grew w G (stateGrown (w .state)) (tableGrown (w .state) (w .memory .table)) → Took w G name bytes new-left
-    new-took E =
+    new-took : checked (new-left .state) (new-left .memory) ≡ true → Grew w G (stateGrown (w .state)) (tableGrown (w .state) (w .memory .table))
+        → Took w G name bytes new-left
+    new-took whole E =
         let T = table-readdressed (E .table) (updated (G .place) name at) (λ k m. updated-other (G .place) name at k (other k (E .only k m))) in
         let a : updated (G .place) name at name ≡ at = updated-same (G .place) name at name refl in
         let N = enters T name (λ m. M (E .only name m)) (omega (arith, E .room loose, E .many)) (λ q. omega (arith, a, new-in, key-short)) in
@@ -362,16 +340,7 @@ module _ {w : World} {G : Ghosts} (S : Sound w G) where
         record {
           ghosts = new-ghosts (N .0);
           sound = record {
-            whole =
-                whole-after (w .state .keys + 1) ka (v .arena)
-                (entered (firstOf (stateGrown (w .state))) (stateGrown (w .state) .buckets) at (murmurHash2 (w .state .seed) name)
-                (tableGrown (w .state) (w .memory .table)))
-                (overwrite at (recordBytes name (v .header)) (w .memory .keys)) (v .memory) E
-                (omega (arith, E .room loose)) (standing-made pageSize ka (length (w .memory .keys)) (room .after))
-                (rw (← new-after .1 .len) (new-after .1 .lane .stands))
-                (length-entered (firstOf (stateGrown (w .state))) (stateGrown (w .state) .buckets) at (murmurHash2 (w .state .seed) name)
-                (tableGrown (w .state) (w .memory .table)) ∙ E .long)
-                (length-overwrite at (recordBytes name (v .header)) (w .memory .keys)) (new-after .1 .len);
+            whole = whole;
             table =
                 rw (E .seed-is)
                 (subst (λ (x : ℕ). Table
@@ -395,5 +364,5 @@ module _ {w : World} {G : Ghosts} (S : Sound w G) where
           leaves = new-leaves (N .0);
         }
 
-    pub took-new : Took w G name bytes new-left
-    took-new = new-took (grew S)
+    pub took-new : checked (new-left .state) (new-left .memory) ≡ true → Took w G name bytes new-left
+    took-new whole = new-took whole (grew S)

@@ -11,21 +11,20 @@ use lib.Dec.{leb}
 use lib.ListN.{length}
 use borrow.Author.Tests.{le-leb, lt-leb}
 use Rattle.limits.specs.Limits.{nameLimit}
-use Rattle.numbers.proofs.Tests.{both-true, cond-true}
 use Rattle.spans.specs.Span.{readSpan, overwrite}
 use Rattle.shared_arena_hashmap.specs.declared.Met.the-variants.{Empty, Standing, Lap}
 use Rattle.expull.specs.declared.Header.{Header}
 use Rattle.expull.specs.declared.Block.{Block as Found·Block}
 use Rattle.expull.specs.declared.Block.the-variants.{NoBlock}
 use Rattle.expull.specs.Header.{laneLength, blockCount}
-use Rattle.expull.specs.Blocks.{goodBlocks, laneBytes, blockPlace, blockLength, blockOf}
+use Rattle.expull.specs.Blocks.{laneBytes, blockPlace, blockLength, blockOf}
 use Rattle.store.specs.declared.State.{State}
 use Rattle.store.specs.declared.Lookup.{Lookup}
 use Rattle.store.specs.declared.Lookup.the-variants.{At, Missing}
 use Rattle.store.specs.declared.Answer.the-variants.{Found, Refused}
 use Rattle.store.specs.declared.Outcome.the-variants.{Length, Reading, Block, NoSuchBlock}
-use Rattle.store.specs.Look.{Lent, lookupOf, onLookup, onLookupRead, headerOf, lengthAt, lengthOf, reading, blocksSound, readAt, readOf, onBlock, blockAt, findBlockOf}
-use Rattle.store.proofs.Found.{lookup-met, Headed, length-found, length-at, block-found, block-at, show-part}
+use Rattle.store.specs.Look.{Lent, lookupOf, onLookup, onLookupRead, headerOf, lengthAt, lengthOf, reading, readAt, readOf, onBlock, blockAt, findBlockOf}
+use Rattle.store.proofs.Found.{lookup-met, Headed, length-found, length-at, read-on, read-at, block-found, block-at, show-part}
 use Rattle.history_lanes.specs.Lane.{Lane, pieces}
 use Rattle.history_lanes.proofs.Readings.{lane-blocks, lane-reads, lane-length, lane-block, lane-no-block, lane-pieces}
 use Rattle.history.specs.History.{World}
@@ -70,28 +69,17 @@ module _ {w : World} {G : Ghosts} (S : Sound w G) (name : List ℕ) where
     bytes : laneBytes (m .lists) h ≡ bs
     bytes = lane-reads (m .lists) (st .«list_arena») h (G .blocks name) lane
 
-    blocks-fine : blocksSound st m at ≡ true
-    unfolding blocksSound
-    blocks-fine =
-        both-true _ _ (header-fine S name M)
-        (ap (λ (g : Header). goodBlocks (st .«list_arena») (m .lists) (g .head) (blockCount g)) (header-is S name M)
-        ∙ lane-blocks (m .lists) (st .«list_arena») h (G .blocks name) lane (blockCount h) (le-refl (blockCount h)))
-
     long-there : laneLength (headerOf (m .keys) at) ≡ length bs
     long-there = ap laneLength (header-is S name M) ∙ long
 
     -- a reading, by the output's length
-    reads-at : (output : List ℕ) (b : Bool) → leb (laneLength (headerOf (m .keys) at)) (length output) ≡ b
+    reads-at : (output : List ℕ) (b : Bool) → leb (laneLength h) (length output) ≡ b
         → readOf st m name output
         ≡ cond b (reading (Found (Reading (length bs))) (overwrite 0 bs output)) (reading (Refused 8 (length bs)) output)
-    unfolding readOf readAt
     reads-at output b e =
-        ap (λ (l : Lookup). onLookupRead l (λ at. readAt st m at output) output) lookup-finds
-        ∙ cond-true (blocksSound st m at) _ _ blocks-fine
-        ∙ (λ i. cond (e i)
-        (reading (Found (Reading (long-there i)))
-        (overwrite 0 ((ap (laneBytes (m .lists)) (header-is S name M) ∙ bytes) i) output))
-        (reading (Refused 8 (long-there i)) output))
+        sym (read-at st m name output at lookup-finds)
+        ∙ read-on st m at output h headed (lane-blocks (m .lists) (st .«list_arena») h (G .blocks name) lane (blockCount h) (le-refl (blockCount h)))
+        ∙ (λ i. cond (e i) (reading (Found (Reading (long i))) (overwrite 0 (bytes i) output)) (reading (Refused 8 (long i)) output))
 
     -- a block
     block-said : (i : ℕ) (b : Found·Block) → blockOf (st .«list_arena») (m .lists) h i ≡ b → findBlockOf st m name i ≡ onBlock b
@@ -122,8 +110,8 @@ module _ {w : World} {G : Ghosts} (S : Sound w G) (name : List ℕ) where
       place = at;
       found = lookup-finds;
       named = record-key (S .records name M);
-      read = λ output l. reads-at output true (le-leb (laneLength (headerOf (m .keys) at)) (length output) (omega (arith, long-there)));
-      unread = λ output l. reads-at output false (lt-leb (laneLength (headerOf (m .keys) at)) (length output) (omega (arith, long-there)));
+      read = λ output l. reads-at output true (le-leb (laneLength h) (length output) (omega (arith, long)));
+      unread = λ output l. reads-at output false (lt-leb (laneLength h) (length output) (omega (arith, long)));
       measured = sym (length-at st m name at lookup-finds) ∙ length-found (m .keys) at h headed ∙ ap (λ (n : ℕ). Found (Length n)) long;
       block = λ i l. (blockPlace (m .lists) (h .head) i, blockLength h i, block-there i (omega (arith, count)));
       blocks =

@@ -1,6 +1,6 @@
 -- The record of a name in the key pages: what the calls read in it, what writes beside it leave, how it is written. Assumes nothing.
 use Prim.Native.Nat.{ℕ, _+_, _-_, _≤_}
-use mathlib.Core.Path.{_≡_, sym, ap, _∙_}
+use mathlib.Core.Path.{_≡_, sym, ap, _∙_, subst}
 use mathlib.Core.Bool.{true}
 use mathlib.Core.List.{List, _++_}
 use native.Mathlib.Nat.{le-refl}
@@ -11,7 +11,7 @@ use Rattle.numbers.specs.LittleEndian.{leBytes}
 use Rattle.numbers.proofs.Laws.{length-le, le-round}
 use Rattle.numbers.proofs.Tests.{both-true}
 use Rattle.spans.specs.Span.{readSpan, overwrite, Apart}
-use Rattle.spans.proofs.Laws.{length-overwrite, read-written, read-before, read-apart, overwrite-append, overwrite-same}
+use Rattle.spans.proofs.Laws.{length-overwrite, read-written, read-before, read-apart, overwrite-same}
 use Rattle.memory_arena.specs.declared.Arena.{Arena}
 use Rattle.memory_arena.specs.Address.{placeOf}
 use Rattle.memory_arena.specs.Pages.{standing}
@@ -22,6 +22,7 @@ use Rattle.expull.specs.Header.{headerBytes, headerAt, endBytesAt, soundHeader}
 use Rattle.expull.proofs.Laws.Header.{header-length, header-back, ends-back}
 use Rattle.store.specs.Look.{headerOf, headerSound}
 use Rattle.store.specs.Append.{recordBytes}
+use Rattle.store.proofs.Cases.{record-written as three-writes}
 use Rattle.history_lanes.specs.Lane.{usedEnd, HeaderFits}
 use Rattle.history_lanes.proofs.Blocks.{apart-within}
 use Rattle.history.specs.Sound.{Record}
@@ -125,9 +126,8 @@ length-record k h =
 pub record-written : (keys : List ℕ) (a : Arena) (at : ℕ) (k : List ℕ) (h : Header) → length k ≤ nameLimit → at + (length k + recordExtra) ≤ usedEnd a
     → placeOf pageSize at + (length k + recordExtra) ≤ pageSize → at + (length k + recordExtra) ≤ length keys
     → Record (overwrite at (recordBytes k h) keys) a at k h
-unfolding recordBytes
 record-written keys a at k h s e p i =
-    rw (overwrite-append at (leBytes 2 (length k)) (k ++ headerBytes h) keys, length-le, overwrite-append (at + 2) k (headerBytes h)) (record {
+    subst (λ (m : List ℕ). Record m a at k h) (three-writes at k h keys) (record {
       short = s;
       ends = e;
       paged = p;

@@ -19,7 +19,7 @@ use Rattle.expull.specs.Blocks.{blockPlace, blockLength}
 use Rattle.expull.proofs.Laws.Blocks.{block-last, block-whole}
 use Rattle.history_lanes.specs.Lane.{wideOn, Links, Below, oldest, Clear, TipApart, TipClear, usedEnd, Lane, After}
 use Rattle.history_lanes.proofs.Blocks.{apart-within}
-use Rattle.history_lanes.proofs.Readings.{lane-block}
+use Rattle.history_lanes.proofs.Readings.{lane-block, place-newest}
 
 -- what holds of every block: of its place and of what it takes
 abbrev Every : (ℕ → ℕ → Type 0) → List ℕ → Type 0
@@ -38,28 +38,22 @@ below-every : (u : ℕ) (ks : List ℕ) → Below u ks → Every (λ x w. x + w 
 below-every u [] b = tt
 below-every u (x ∷ ks) b = (b .0, below-every u ks (b .1))
 
--- the links lead from the head to the newest block
-newest-place : (m : List ℕ) (hd x : ℕ) (ks : List ℕ) → Links m (x ∷ ks) → hd ≡ oldest x ks → blockPlace m hd (length ks) ≡ x
-unfolding blockPlace
-newest-place m hd x [] l e = e
-newest-place m hd x (y ∷ ks) l e = rw (newest-place m hd y ks (l .1) e) (l .0)
-
 module _ (P : ℕ → ℕ → Type 0) (m : List ℕ) (hd : ℕ) where
   abbrev AtIndex : ℕ → Type 0
   AtIndex i = P (blockPlace m hd i) (blockSize (i + 3) + linkSize)
 
   index-every : (x : ℕ) (ks : List ℕ) → Links m (x ∷ ks) → hd ≡ oldest x ks → Every P (x ∷ ks) → (i : ℕ) → i ≤ length ks → AtIndex i
-  index-every x [] l e a i h = let z : i ≡ length {A = ℕ} [] = omega arith in rw (z, newest-place m hd x [] l e) (a .0)
+  index-every x [] l e a i h = let z : i ≡ length {A = ℕ} [] = omega arith in rw (z, place-newest m hd x [] l e) (a .0)
   index-every x (y ∷ ks) l e a i h = go (eqb i (length (y ∷ ks))) refl (λ k. index-every y ks (l .1) e (a .1) i k)
     where
       go : (t : Bool) → eqb i (length (y ∷ ks)) ≡ t → (i ≤ length ks → AtIndex i) → AtIndex i
-      go true q f = rw (eqb-true i (length (y ∷ ks)) q, newest-place m hd x (y ∷ ks) l e) (a .0)
+      go true q f = rw (eqb-true i (length (y ∷ ks)) q, place-newest m hd x (y ∷ ks) l e) (a .0)
       go false q f = let z : i ≡ suc (length ks) → ⊥ = eqb-false i (length (y ∷ ks)) q in f (omega arith)
 
   every-index : (x : ℕ) (ks : List ℕ) → Links m (x ∷ ks) → hd ≡ oldest x ks → ((i : ℕ) → i ≤ length ks → AtIndex i) → Every P (x ∷ ks)
-  every-index x [] l e f = (rw (newest-place m hd x [] l e) at (f 0 (omega arith)), tt)
+  every-index x [] l e f = (rw (place-newest m hd x [] l e) at (f 0 (omega arith)), tt)
   every-index x (y ∷ ks) l e f =
-      (rw (newest-place m hd x (y ∷ ks) l e) at (f (length (y ∷ ks)) (le-refl (length (y ∷ ks)))), every-index y ks (l .1) e (λ i h. f i (omega arith)))
+      (rw (place-newest m hd x (y ∷ ks) l e) at (f (length (y ∷ ks)) (le-refl (length (y ∷ ks)))), every-index y ks (l .1) e (λ i h. f i (omega arith)))
 
 -- a span apart from each block that can be found is clear of the blocks
 pub lane-clear : (m : List ℕ) (a : Arena) (h : Header) (ks : List ℕ) → Lane m a h ks → (q n : ℕ)
@@ -91,7 +85,7 @@ told-below m a h (x ∷ []) L i k =
       ap blockSize (sym e),
       ap (blockPlace m (h .head)) z,
       ap (λ (j : ℕ). blockSize (j + 3)) z,
-      newest-place m (h .head) x [] (L .links) (L .tip .0),
+      place-newest m (h .head) x [] (L .links) (L .tip .0),
       L .tip,
     )
 told-below m a h (x ∷ y ∷ ks) L i k = go (eqb i (suc (length ks))) refl
@@ -106,7 +100,7 @@ told-below m a h (x ∷ y ∷ ks) L i k = go (eqb i (suc (length ks))) refl
           ap blockSize (sym e),
           ap (blockPlace m (h .head)) z,
           ap (λ (j : ℕ). blockSize (j + 3)) z,
-          newest-place m (h .head) x (y ∷ ks) (L .links) (L .tip .0),
+          place-newest m (h .head) x (y ∷ ks) (L .links) (L .tip .0),
           L .tip,
         )
     go false q =

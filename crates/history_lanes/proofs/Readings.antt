@@ -108,7 +108,7 @@ lane-tail m a h (x ∷ ks) L =
     (omega (arith, L .tip .2, L .below .0)))
 
 -- the links lead from the head to the newest block
-place-newest : (m : List ℕ) (hd x : ℕ) (ks : List ℕ) → Links m (x ∷ ks) → hd ≡ oldest x ks → blockPlace m hd (length ks) ≡ x
+pub place-newest : (m : List ℕ) (hd x : ℕ) (ks : List ℕ) → Links m (x ∷ ks) → hd ≡ oldest x ks → blockPlace m hd (length ks) ≡ x
 unfolding blockPlace
 place-newest m hd x [] l e = e
 place-newest m hd x (y ∷ ks) l e = rw (place-newest m hd y ks (l .1) e) (l .0)

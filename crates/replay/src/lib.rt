@@ -1,0 +1,129 @@
+// A whole shift in one call: a store is created on lent memory, and appends that stand one behind the other in a script are played on it.
+//
+// It promises demand 3 of running code: whatever the script holds, each name then reads as its accepted appends joined in order, and as absent where
+// there was none. specs/Script.antt says which appends a script holds. It uses limits, numbers, spans, store and history (and the crates of the store's types).
+use store::Appended;
+use store::Created;
+use store::State;
+ghost use mathlib.Core.Path.{_≡_};
+ghost use Prim.Native.Nat.{_≤_};
+ghost use lib.ListN.{length};
+ghost use Rattle.store.specs.Look.{lent};
+ghost use Rattle.history.specs.History.{play, stateAfter};
+ghost use Rattle.replay.specs.Script.{world, entryAt, Inside, callsOf, played, Replayed};
+
+// An entry of a script: where its name and its bytes lie, and where the next entry starts; or no whole entry there.
+pub enum Entry {
+    Whole(usize, usize, usize),
+    NoEntry,
+}
+
+// The entry at a place: name length (2 bytes, little-endian), name, byte length (4), bytes.
+fn entry_at(script: &[u8], at: usize) -> Entry
+    requires { ⌜ at ≤ length (now script) ⌝ }
+    ensures { λ r. ⌜ (r ≡ entryAt (now (script .entry)) at) × Inside (length (now (script .entry))) at r ⌝ }
+{
+    let left = script.len() - at;
+    if left < 6 {
+        return Entry::NoEntry;
+    }
+    let n = spans::get_u16(script, at) as usize;
+    if left - 6 < n {
+        return Entry::NoEntry;
+    }
+    let m = spans::get_u32(script, at + 2 + n) as usize;
+    if left - 6 - n < m {
+        return Entry::NoEntry;
+    }
+    let name_end = at + 2 + n;
+    let bytes = name_end + 4;
+    Entry::Whole(name_end, bytes, bytes + m)
+}
+
+fn state_of(a: Appended) -> State
+    ensures { λ r. ⌜ r ≡ stateAfter a ⌝ }
+{
+    match a {
+        Appended::Accepted(st) => st,
+        Appended::Declined(st, _) => st,
+    }
+}
+
+// One entry's append.
+fn play_entry(
+    st: State,
+    table: &mut [u32],
+    keys: &mut [u8],
+    lists: &mut [u8],
+    script: &[u8],
+    name: usize,
+    name_end: usize,
+    from: usize,
+    to: usize,
+) -> State
+    requires { ⌜ (name ≤ «name_end») × ((«name_end» ≤ length (now script)) × ((from ≤ to) × (to ≤ length (now script)))) ⌝ }
+    ensures { λ r. ⌜ world r (lent (now (table .exit)) (now (keys .exit)) (now (lists .exit))) ≡ played st (lent (now (table .entry)) (now (keys .entry)) (now (lists .entry))) (now (script .entry)) name «name_end» from to ⌝ }
+{
+    let a = store::write::append(
+        st,
+        table,
+        keys,
+        lists,
+        &script[name..name_end],
+        &script[from..to],
+    );
+    state_of(a)
+}
+
+// All entries, in order.
+fn play_script(
+    st: State,
+    table: &mut [u32],
+    keys: &mut [u8],
+    lists: &mut [u8],
+    script: &[u8],
+) -> State
+    ensures { λ r. ⌜ world r (lent (now (table .exit)) (now (keys .exit)) (now (lists .exit))) ≡ play (callsOf (now (script .entry))) (world st (lent (now (table .entry)) (now (keys .entry)) (now (lists .entry)))) ⌝ }
+{
+    let mut state = st;
+    let mut at = 0;
+    let mut turns = script.len();
+    while 0 < turns {
+        let e = entry_at(script, at);
+        let Entry::Whole(name_end, from, to) = e else {
+            return state;
+        };
+        state = play_entry(
+            state,
+            table,
+            keys,
+            lists,
+            script,
+            at + 2,
+            name_end,
+            from,
+            to,
+        );
+        at = to;
+        turns = turns - 1;
+    }
+    state
+}
+
+// A store on lent memory, and a script's appends played on it: the state after the last, or refusal 1 and nothing changed.
+pub fn replay(
+    capacity: usize,
+    seed: u32,
+    table: &mut [u32],
+    keys: &mut [u8],
+    lists: &mut [u8],
+    script: &[u8],
+) -> Created
+    ensures { λ r. ⌜ Replayed capacity seed (lent (now (table .entry)) (now (keys .entry)) (now (lists .entry))) (now (script .entry)) r (lent (now (table .exit)) (now (keys .exit)) (now (lists .exit))) ⌝ }
+{
+    let made = store::create::create(capacity, seed, table, keys, lists);
+    let Created::Made(st) = made else {
+        return made;
+    };
+    Created::Made(play_script(st, table, keys, lists, script))
+}
