@@ -1,0 +1,595 @@
+#!/usr/bin/env python3
+"""A model of the testbench and of the store, written from document 01 alone: plays a script on standard input, prints the answers.
+It shares no code with the crates; it is slow, and it is there to be held against them."""
+import re
+import sys
+
+PAGE = 1048576
+ARENA = 67108864
+WORDS = 2 * 4194304
+NULL = 0xFFFFFFFF
+M = 0x5BD1E995
+
+
+# ---- hash and vint
+
+def murmur(seed, data):
+    h = (seed ^ len(data)) & 0xFFFFFFFF
+    n = len(data) // 4 * 4
+    for i in range(0, n, 4):
+        k = int.from_bytes(data[i:i + 4], "little")
+        k = k * M & 0xFFFFFFFF
+        k ^= k >> 24
+        k = k * M & 0xFFFFFFFF
+        h = (h * M & 0xFFFFFFFF) ^ k
+    if n < len(data):
+        h ^= int.from_bytes(data[n:], "little")
+        h = h * M & 0xFFFFFFFF
+    h ^= h >> 13
+    h = h * M & 0xFFFFFFFF
+    return h ^ (h >> 15)
+
+
+def vint(n):
+    groups = []
+    while True:
+        groups.append(n % 128)
+        n //= 128
+        if n == 0:
+            break
+    groups[-1] += 128
+    return bytes(groups)
+
+
+def unvint(data):
+    total = 0
+    for i, b in enumerate(data[:5]):
+        total += (b & 127) << (7 * i)
+        if b & 128:
+            return total % 2 ** 32, i + 1
+    return None
+
+
+# ---- arenas
+
+def capacity(length, page):
+    return max(0, min(PAGE, length - page * PAGE))
+
+
+def lendable(length):
+    return 1 <= length <= ARENA
+
+
+def arena_ok(length, page, used):
+    return lendable(length) and page < -(-length // PAGE) and used <= capacity(length, page)
+
+
+def good(page, used, at, n):
+    p, place = at // PAGE, at % PAGE
+    if p > page:
+        return False
+    return place + n <= (used if p == page else PAGE)
+
+
+def allocate(length, page, used, n):
+    """address, page, used; None for no room"""
+    if used + n <= capacity(length, page):
+        return page * PAGE + used, page, used + n
+    if n <= capacity(length, page + 1):
+        return (page + 1) * PAGE, page + 1, n
+    return None
+
+
+# ---- the store
+
+FIELDS = "seed words key_bytes list_bytes buckets end keys key_page key_used list_page list_used".split()
+
+
+class Refused(Exception):
+    def __init__(self, number, told=None):
+        self.number, self.told = number, told
+
+
+class Absent(Exception):
+    pass
+
+
+def block_size(b):
+    return 2 ** min(b, 15)
+
+
+def le(n, width):
+    return n.to_bytes(width, "little")
+
+
+def number(data):
+    return int.from_bytes(data, "little")
+
+
+class Store:
+    def __init__(self):
+        self.table, self.keys, self.lists = [], bytearray(), bytearray()
+        self.s = dict.fromkeys(FIELDS, 0)
+
+    def create(self, cap, seed):
+        words, k, l = len(self.table), len(self.keys), len(self.lists)
+        if cap == 0 or not lendable(k) or not lendable(l) or words % 2 or words > WORDS:
+            raise Refused(1)
+        rounded = 1 << (cap.bit_length() - 1)
+        if words < 2 * rounded:
+            raise Refused(1)
+        for i in range(rounded):
+            self.table[2 * i], self.table[2 * i + 1] = NULL, 0
+        self.s = dict(zip(FIELDS, [seed, words, k, l, rounded, 0, 0, 0, 0, 0, 0]))
+
+    def check(self):
+        s = self.s
+        L = s["buckets"]
+        ok = (
+            (s["words"], s["key_bytes"], s["list_bytes"]) == (len(self.table), len(self.keys), len(self.lists))
+            and lendable(s["key_bytes"]) and lendable(s["list_bytes"]) and s["words"] % 2 == 0 and s["words"] <= WORDS
+            and L >= 1 and L & (L - 1) == 0 and L <= s["words"] // 2 and s["keys"] <= L
+            and arena_ok(s["key_bytes"], s["key_page"], s["key_used"])
+            and arena_ok(s["list_bytes"], s["list_page"], s["list_used"])
+        )
+        if not ok:
+            raise Refused(2)
+
+    def first(self):
+        return len(self.table) - 2 * self.s["buckets"] if self.s["end"] else 0
+
+    def key_good(self, at, n):
+        return good(self.s["key_page"], self.s["key_used"], at, n)
+
+    def list_good(self, at, n):
+        return good(self.s["list_page"], self.s["list_used"], at, n)
+
+    def record_good(self, at):
+        return self.key_good(at, 2) and self.key_good(at, 18 + number(self.keys[at:at + 2]))
+
+    def probe(self, name):
+        """place of the record, 'empty' or 'lap'"""
+        self.check()
+        if len(name) > 65535:
+            raise Refused(3)
+        L, first = self.s["buckets"], self.first()
+        h = murmur(self.s["seed"], name)
+        for i in range(L):
+            b = first + 2 * ((h + 1 + i) % L)
+            if self.table[b] == NULL:
+                return "empty"
+            if self.table[b + 1] == h:
+                at = self.table[b]
+                if not self.record_good(at):
+                    raise Refused(4)
+                n = number(self.keys[at:at + 2])
+                if self.keys[at + 2:at + 2 + n] == name:
+                    return at
+        return "lap"
+
+    def lookup(self, name):
+        got = self.probe(name)
+        if isinstance(got, str):
+            raise Absent()
+        return got
+
+    def header(self, at):
+        """place, block number, head, tail, remaining"""
+        v = at + 2 + number(self.keys[at:at + 2])
+        raw = self.keys[v:v + 16]
+        b, head, tail, rem = number(raw[0:4]), number(raw[4:8]), number(raw[8:12]), number(raw[12:14])
+        if b < 2 or b > 140000:
+            raise Refused(4)
+        if b == 2 and (head, tail, rem) != (NULL, NULL, 0):
+            raise Refused(4)
+        if b != 2 and head == NULL:
+            raise Refused(4)
+        if b >= 3 and rem > block_size(b):
+            raise Refused(4)
+        if raw[14] or raw[15]:
+            raise Refused(4)
+        return v, b, head, tail, rem
+
+    def lane_length(self, b, rem):
+        return sum(block_size(i) for i in range(3, b)) + (block_size(b) - rem if b >= 3 else 0)
+
+    def length(self, name):
+        v, b, head, tail, rem = self.header(self.lookup(name))
+        return self.lane_length(b, rem)
+
+    def blocks(self, b, head, count):
+        """places of the first blocks"""
+        at, out = head, []
+        for i in range(count):
+            size = block_size(3 + i)
+            if not self.list_good(at, size + 4):
+                raise Refused(4)
+            out.append(at)
+            at = number(self.lists[at + size:at + size + 4])
+        return out
+
+    def read(self, name, room):
+        v, b, head, tail, rem = self.header(self.lookup(name))
+        places = self.blocks(b, head, b - 2)
+        n = self.lane_length(b, rem)
+        if n > room:
+            raise Refused(8, n)
+        whole = b"".join(bytes(self.lists[p:p + block_size(3 + i)]) for i, p in enumerate(places))
+        return whole[:n]
+
+    def block(self, name, index):
+        v, b, head, tail, rem = self.header(self.lookup(name))
+        if index >= b - 2:
+            return None
+        places = self.blocks(b, head, index + 1)
+        size = block_size(3 + index)
+        return places[index], size - rem if index == b - 3 else size
+
+    def show(self, at, n):
+        try:
+            self.check()
+        except Refused:
+            return b""
+        return bytes(self.lists[at:at + n]) if self.list_good(at, n) else b""
+
+    def next(self, i):
+        self.check()
+        first = self.first()
+        while i < self.s["buckets"]:
+            at = self.table[first + 2 * i]
+            if at != NULL:
+                if not self.record_good(at):
+                    raise Refused(4)
+                return i, at
+            i += 1
+        return None
+
+    def plan(self, b, rem, n):
+        """addresses of the blocks that n bytes take, and the arena state after them"""
+        page, used = self.s["list_page"], self.s["list_used"]
+        n -= min(n, rem)
+        places = []
+        while n > 0:
+            b += 1
+            got = allocate(len(self.lists), page, used, block_size(b) + 4)
+            if got is None:
+                raise Refused(7)
+            at, page, used = got
+            places.append(at)
+            n -= min(n, block_size(b))
+        return places, page, used
+
+    def pour(self, head_of, data, plan):
+        """writes data to a list; answers its header"""
+        b, head, tail, rem = head_of
+        places, page, used = plan
+        self.s["list_page"], self.s["list_used"] = page, used
+        at = 0
+        for place in places + [None]:
+            k = min(rem, len(data) - at)
+            self.lists[tail:tail + k] = data[at:at + k]
+            at, rem = at + k, rem - k
+            if k:
+                tail += k
+            if place is None:
+                break
+            if b == 2:
+                head = place
+            else:
+                self.lists[tail:tail + 4] = le(place, 4)
+            b += 1
+            tail, rem = place, block_size(b)
+        assert at == len(data)
+        return le(b, 4) + le(head, 4) + le(tail, 4) + le(rem, 2) + b"\0\0"
+
+    def enter(self, first, L, at, h):
+        for i in range(L):
+            b = first + 2 * ((h + 1 + i) % L)
+            if self.table[b] == NULL:
+                self.table[b], self.table[b + 1] = at, h
+                return
+        raise AssertionError("no empty bucket")
+
+    def grow(self):
+        L, old = self.s["buckets"], self.first()
+        self.s["buckets"], self.s["end"] = max(2 * L, 8), 1 - self.s["end"]
+        first = self.first()
+        buckets = [(self.table[old + 2 * i], self.table[old + 2 * i + 1]) for i in range(L)]
+        for i in range(self.s["buckets"]):
+            self.table[first + 2 * i], self.table[first + 2 * i + 1] = NULL, 0
+        for at, h in buckets:
+            if at != NULL:
+                self.enter(first, self.s["buckets"], at, h)
+
+    def append(self, name, data):
+        got = self.probe(name)
+        s, L = self.s, self.s["buckets"]
+        saturated = L <= 2 * s["keys"]
+        room = L + max(2 * L, 8) <= len(self.table) // 2
+        if not isinstance(got, str):
+            v, b, head, tail, rem = self.header(got)
+            if b >= 3 and not self.list_good(tail, rem + 4):
+                raise Refused(4)
+            plan = self.plan(b, rem, len(data))
+            self.keys[v:v + 16] = self.pour((b, head, tail, rem), data, plan)
+            if saturated and room:
+                self.grow()
+            return
+        if got == "lap" and not saturated:
+            raise Refused(4)
+        if saturated and not room:
+            raise Refused(5)
+        record = allocate(len(self.keys), s["key_page"], s["key_used"], len(name) + 18)
+        if record is None:
+            raise Refused(6)
+        plan = self.plan(2, 0, len(data))
+        at, s["key_page"], s["key_used"] = record
+        header = self.pour((2, NULL, NULL, 0), data, plan)
+        self.keys[at:at + len(name) + 18] = le(len(name), 2) + name + header
+        if saturated:
+            self.grow()
+        s["keys"] += 1
+        self.enter(self.first(), s["buckets"], at, murmur(s["seed"], name))
+
+
+# ---- the bench's language
+
+class Fault(Exception):
+    pass
+
+
+USAGE = """lend WORDS KEYBYTES LISTBYTES HH
+create CAPACITY SEED
+append NAME BYTES
+lookup NAME
+length NAME
+read NAME ROOM
+block NAME INDEX
+show PLACE LENGTH
+next INDEX
+count
+state
+set FIELD NUMBER
+poke AREA PLACE BYTES-or-WORD
+dump AREA PLACE COUNT
+sum
+hash SEED BYTES
+vint N
+unvint BYTES
+equal A B
+copy A B
+allocate PAGE USED LENGTH N
+get PAGE USED LENGTH PLACE N
+put PAGE USED LENGTH PLACE BYTES
+help""".split("\n")
+COMMANDS = {u.split()[0]: u for u in USAGE}
+HELP = """# a command to a line, words one space apart; an empty line and one that begins with # are passed over
+# NUMBERS are decimal; BYTES and NAMES are hex pairs, - for none, N*HH for N times a byte, joined by +, or 'letters-and-digits
+# AREA is table (of words), keys or lists; FIELD is a name that state tells; end is 0 at the front, 1 at the back
+# allocate, get and put: the bare arena over the first LENGTH bytes of the lent list area"""
+
+
+def num(w, top=2 ** 64 - 1):
+    if not re.fullmatch("[0-9]+", w):
+        raise Fault("not a number")
+    if int(w) > top:
+        raise Fault("number too large")
+    return int(w)
+
+
+def data(w):
+    bad = Fault("not bytes: hex pairs, - or N*HH joined by +, or ' and a name")
+    if w.startswith("'"):
+        if not re.fullmatch("'[A-Za-z0-9_.-]+", w):
+            raise bad
+        out = w[1:].encode()
+    else:
+        out = b""
+        for piece in w.split("+"):
+            run = re.fullmatch("([^*]*)[*](.*)", piece, re.S)
+            if piece == "-":
+                continue
+            if run:
+                n = num(run[1])
+                if not re.fullmatch("[0-9a-f]{2}", run[2]):
+                    raise bad
+                if len(out) + n > 262144:
+                    raise Fault("bytes too long: at most 262144")
+                out += bytes([int(run[2], 16)]) * n
+            elif re.fullmatch("([0-9a-f]{2})+", piece):
+                out += bytes.fromhex(piece)
+            else:
+                raise bad
+    if len(out) > 262144:
+        raise Fault("bytes too long: at most 262144")
+    return out
+
+
+def shown(b):
+    return bytes(b).hex() or "-"
+
+
+class Bench:
+    def __init__(self):
+        self.st = Store()
+
+    def area(self, w):
+        if w not in ("table", "keys", "lists"):
+            raise Fault("no such area: table, keys or lists")
+        return getattr(self.st, w)
+
+    def span(self, area, place, n):
+        if place + n > len(area):
+            raise Fault("past the end")
+        return area[place:place + n]
+
+    def lists(self, n):
+        return self.span(self.st.lists, 0, n)
+
+    # commands
+
+    def lend(self, w, k, l, hh):
+        w, k, l = num(w), num(k), num(l)
+        if not re.fullmatch("[0-9a-f]{2}", hh):
+            raise Fault("not bytes: hex pairs, - or N*HH joined by +, or ' and a name")
+        if w > 131072 or k > 2 * PAGE or l > 3 * PAGE:
+            raise Fault("no such memory: at most 131072 words, 2097152 and 3145728 bytes")
+        self.st = Store()
+        self.st.table = [int(hh, 16) * 0x01010101] * w
+        self.st.keys = bytearray([int(hh, 16)]) * k
+        self.st.lists = bytearray([int(hh, 16)]) * l
+        return "lent"
+
+    def create(self, cap, seed):
+        self.st.create(num(cap), num(seed, NULL))
+        return "created"
+
+    def append(self, name, b):
+        self.st.append(data(name), data(b))
+        return "accepted"
+
+    def lookup(self, name):
+        return "at %d" % self.st.lookup(data(name))
+
+    def length(self, name):
+        return "length %d" % self.st.length(data(name))
+
+    def read(self, name, room):
+        name, room = data(name), num(room)
+        if room > PAGE:
+            raise Fault("output too long: at most 1048576")
+        try:
+            got = self.st.read(name, room)
+            return "reading %d %s kept" % (len(got), shown(got))
+        except Absent:
+            return "absent kept"
+        except Refused as e:
+            return "refused %d%s kept" % (e.number, "" if e.told is None else " %d" % e.told)
+
+    def block(self, name, index):
+        got = self.st.block(data(name), num(index))
+        return "no such block" if got is None else "block %d %d" % got
+
+    def show(self, at, n):
+        return shown(self.st.show(num(at, NULL), num(n)))
+
+    def next(self, i):
+        got = self.st.next(num(i))
+        return "none" if got is None else "bucket %d %d" % got
+
+    def count(self):
+        self.st.check()
+        return "keys %d" % self.st.s["keys"]
+
+    def state(self):
+        return "state " + " ".join("%s=%d" % (f, self.st.s[f]) for f in FIELDS)
+
+    def set(self, field, n):
+        if field not in FIELDS:
+            raise Fault("no such field")
+        self.st.s[field] = num(n, {"seed": NULL, "end": 1}.get(field, 2 ** 64 - 1))
+        return "set"
+
+    def poke(self, area, place, what):
+        a = self.area(area)
+        place, new = num(place), [num(what, NULL)] if area == "table" else data(what)
+        self.span(a, place, len(new))
+        a[place:place + len(new)] = new
+        return "poked"
+
+    def dump(self, area, place, n):
+        a = self.area(area)
+        part = self.span(a, num(place), num(n))
+        return (" ".join("%d" % x for x in part) or "-") if area == "table" else shown(part)
+
+    def sum(self):
+        st = self.st
+        table = b"".join(le(x, 4) for x in st.table)
+        state = b"".join(le(st.s[f], 8) for f in FIELDS)
+        return "sum " + " ".join("%d" % murmur(0, x) for x in (table, st.keys, st.lists, state))
+
+    def hash(self, seed, b):
+        return "hash %d" % murmur(num(seed, NULL), data(b))
+
+    def vint(self, n):
+        return "vint " + shown(vint(num(n, NULL)))
+
+    def unvint(self, b):
+        got = unvint(data(b))
+        if got is None:
+            raise Refused(11)
+        return "number %d taken %d" % got
+
+    def equal(self, a, b):
+        return "equal" if data(a) == data(b) else "different"
+
+    def copy(self, a, b):
+        if len(data(a)) != len(data(b)):
+            raise Refused(9)
+        return "copied"
+
+    def allocate(self, page, used, length, n):
+        page, used, length, n = num(page), num(used), num(length), num(n)
+        self.lists(length)
+        if n == 0 or n > PAGE:
+            raise Refused(9)
+        if not arena_ok(length, page, used):
+            raise Refused(10)
+        got = allocate(length, page, used, n)
+        return "no room" if got is None else "at %d %d %d" % got
+
+    def get(self, page, used, length, place, n):
+        page, used, length, place, n = num(page), num(used), num(length), num(place, NULL), num(n)
+        area = self.lists(length)
+        if n > PAGE:
+            raise Fault("output too long: at most 1048576")
+        if not arena_ok(length, page, used) or not good(page, used, place, n):
+            raise Refused(10)
+        return shown(area[place:place + n])
+
+    def put(self, page, used, length, place, b):
+        page, used, length, place, b = num(page), num(used), num(length), num(place, NULL), data(b)
+        self.lists(length)
+        if not arena_ok(length, page, used) or not good(page, used, place, len(b)):
+            raise Refused(10)
+        self.st.lists[place:place + len(b)] = b
+        return "put"
+
+    def help(self):
+        return HELP + "\n" + "\n".join("# " + u for u in USAGE)
+
+    def play(self, line):
+        if line == "" or line.startswith("#"):
+            return None
+        if len(line) > 65536:
+            return "? line too long"
+        words = line.split(" ")
+        if words[0] not in COMMANDS:
+            return "? unknown command"
+        usage = COMMANDS[words[0]]
+        if len(words) != len(usage.split(" ")):
+            return "? usage: " + usage
+        try:
+            return getattr(self, words[0])(*words[1:])
+        except Refused as e:
+            return "refused %d" % e.number
+        except Absent:
+            return "absent"
+        except Fault as e:
+            return "? " + str(e)
+
+
+def main():
+    text = sys.stdin.buffer.read().decode("latin-1")
+    bench = Bench()
+    lines = text.split("\n")
+    if lines[-1] == "":
+        lines.pop()
+    for line in lines:
+        said = bench.play(line)
+        if said is not None:
+            print(said)
+
+
+if __name__ == "__main__":
+    main()
