@@ -1,10 +1,11 @@
 -- Document 01, port step 2 and refusal 9: a copy between equal lengths; unequal lengths are refused, and nothing is written then.
 use Prim.Native.Nat.{ℕ}
+use mathlib.Core.Path.{_≡_, refl}
 use mathlib.Core.Bool.{cond}
-use mathlib.Core.List.{List, []}
+use mathlib.Core.List.{List, [], _∷_}
 use lib.Dec.{eqb}
 use lib.ListN.{length}
-use Rattle.limits.specs.Refusals.{Said, answered, refused}
+use Rattle.limits.specs.Refusals.{Said, answered, refused, done, one-outcome}
 use Rattle.fastcpy.specs.declared.Copied.{Copied}
 use Rattle.fastcpy.specs.declared.Copied.the-variants.{Done, Refused}
 
@@ -21,5 +22,15 @@ copyOf src dst = cond (eqb (length src) (length dst)) (out Done src) (out (Refus
 
 -- the answer in document 01's terms
 abbrev pub saidCopied : Copied → Said
-saidCopied Done = answered []
+saidCopied Done = answered done []
 saidCopied (Refused n) = refused n []
+
+-- a row a case: what the call says then
+pub said-cases : (saidCopied (copyOf (1 ∷ 2 ∷ []) (3 ∷ 4 ∷ []) .answer) ≡ answered done [])
+    × (saidCopied (copyOf (1 ∷ 2 ∷ []) (3 ∷ []) .answer) ≡ refused 9 [])
+unfolding copyOf
+said-cases = (refl, refl)
+
+-- the promise permits one outcome
+pub copy-settled : (src dst : List ℕ) {x y : Out} → x ≡ copyOf src dst → y ≡ copyOf src dst → x ≡ y
+copy-settled src dst p q = one-outcome p q

@@ -6,11 +6,10 @@
 // have shown that before they call. The AVX branch is not carried over; what was a constant parameter there, the size of a part,
 // is a number here. It uses limits (what an answer says) and spans.
 ghost use mathlib.Core.Bool.{true};
-ghost use mathlib.Core.List.{[], _∷_};
 ghost use mathlib.Core.Path.{_≡_};
 ghost use Prim.Native.Nat.{_+_, _*_, _≤_, _<_};
 ghost use lib.ListN.{length};
-ghost use Rattle.limits.specs.Refusals.{listed};
+ghost use Rattle.limits.specs.Refusals.{copying, permitted};
 ghost use Rattle.spans.specs.Span.{overwrite};
 ghost use Rattle.fastcpy.specs.Copy.{out, copyOf, saidCopied};
 
@@ -21,7 +20,8 @@ pub enum Copied {
 
 // Copies src over dst.
 pub fn fast_short_slice_copy(src: &[u8], dst: &mut [u8]) -> Copied
-    ensures { λ r. ⌜ (out r (now (dst .exit)) ≡ copyOf (now (src .entry)) (now (dst .entry))) × (listed (9 ∷ []) (saidCopied r .number) ≡ true) ⌝ }
+    ensures settled { λ r. ⌜ out r (now (dst .exit)) ≡ copyOf (now (src .entry)) (now (dst .entry)) ⌝ }
+    ensures numbered { λ r. ⌜ permitted copying (saidCopied r) ≡ true ⌝ }
 {
     if src.len() != dst.len() {
         return Copied::Refused(9);

@@ -1,40 +1,84 @@
--- Document 01, "Refusal numbers": what an answer says in that paper's terms. Each enum that a call answers with has a definition that
--- gives its `Said` case by case, and the call's contract uses it to promise that a refusal has one of the numbers the paper lists for it.
+-- Document 01, "Refusal numbers": what an answer says in that paper's terms, and which numbers each call may give. Each enum that a call
+-- answers with has a definition that gives its `Said` case by case, and the call's contract uses it.
 use Prim.Native.Nat.{ℕ}
 use mathlib.Core.Path.{_≡_, refl, sym, _∙_}
 use mathlib.Core.Bool.{Bool, true, false, _||_}
 use mathlib.Core.List.{List, [], _∷_}
 use lib.Dec.{eqb}
 
--- the refusal number, 0 where the answer is no refusal; and the values told
-pub record Said : Type 0 where
-  pub number : ℕ
-  pub values : List ℕ
+-- the paper's word for an answer that is no refusal: two answers that differ in kind have different words
+pub data Word : Type 0 where
+  -- a copy, a bare read or a bare write
+  done : Word
+  -- an allocation's address and the arena's state after it; no page has room
+  anAddress : Word
+  noRoom : Word
+  -- a number read from a vint, and the bytes taken
+  aNumber : Word
+  -- a creation, an append
+  created : Word
+  accepted : Word
+  -- a record's place; the plain word absent
+  aPlace : Word
+  absent : Word
+  -- the list's outcome for a standing lane
+  aLength : Word
+  aReading : Word
+  aBlock : Word
+  noSuchBlock : Word
+  -- a listing's bucket and record; none
+  aBucket : Word
+  noBucket : Word
+  -- how many keys
+  aCount : Word
 
-abbrev pub answered : List ℕ → Said
-answered vs = record { number = 0; values = vs }
+-- an answer: its word and the values it tells; or a refusal: its number, and the value told beside it where the paper tells one
+pub data Said : Type 0 where
+  answered : Word → List ℕ → Said
+  refused : ℕ → List ℕ → Said
 
-abbrev pub refused : ℕ → List ℕ → Said
-refused n vs = record { number = n; values = vs }
+-- ---- which numbers a call may give
 
--- the answer is no refusal, or one whose number is listed
-abbrev pub listed : List ℕ → ℕ → Bool
-listed [] k = eqb k 0
-listed (n ∷ ns) k = eqb k n || listed ns k
+pub data Asked : Type 0 where
+  copying : Asked
+  allocating : Asked
+  touching : Asked
+  unvinting : Asked
+  creating : Asked
+  appending : Asked
+  lookingUp : Asked
+  measuring : Asked
+  readingLane : Asked
+  findingBlock : Asked
+  listingBuckets : Asked
+  countingKeys : Asked
 
--- an answer that is no refusal is always listed
-pub unlisted : (ns : List ℕ) → listed ns 0 ≡ true
-unlisted [] = refl
-unlisted (n ∷ ns) = go (eqb 0 n) (unlisted ns)
-  where
-    go : (t : Bool) → listed ns 0 ≡ true → (t || listed ns 0) ≡ true
-    go true e = refl
-    go false e = e
+-- the numbers of each call, in the order in which they are given (docs/DECISIONS.md, D1)
+abbrev pub refusalNumbers : Asked → List ℕ
+refusalNumbers copying = 9 ∷ []
+refusalNumbers allocating = 9 ∷ 10 ∷ []
+refusalNumbers touching = 10 ∷ []
+refusalNumbers unvinting = 11 ∷ []
+refusalNumbers creating = 1 ∷ []
+refusalNumbers appending = 2 ∷ 3 ∷ 4 ∷ 5 ∷ 6 ∷ 7 ∷ []
+refusalNumbers lookingUp = 2 ∷ 3 ∷ 4 ∷ []
+refusalNumbers measuring = 2 ∷ 3 ∷ 4 ∷ []
+refusalNumbers readingLane = 2 ∷ 3 ∷ 4 ∷ 8 ∷ []
+refusalNumbers findingBlock = 2 ∷ 3 ∷ 4 ∷ []
+refusalNumbers listingBuckets = 2 ∷ 4 ∷ []
+refusalNumbers countingKeys = 2 ∷ []
 
--- a contract that is an equation permits one outcome: two that meet it are equal
+abbrev pub isAmong : ℕ → List ℕ → Bool
+isAmong k [] = false
+isAmong k (n ∷ ns) = eqb k n || isAmong k ns
+
+-- no refusal, or one whose number the call may give
+abbrev pub permitted : Asked → Said → Bool
+permitted q (answered w vs) = true
+permitted q (refused n vs) = isAmong n (refusalNumbers q)
+
+-- ---- one outcome
+
+-- a promise that is an equation permits one outcome: two that meet it are equal
 pub one-outcome {ℓ} : {A : Type ℓ} {x y settled : A} → x ≡ settled → y ≡ settled → x ≡ y
 one-outcome p q = p ∙ sym q
-
--- every number of document 01
-abbrev pub refusalNumbers : List ℕ
-refusalNumbers = 1 ∷ 2 ∷ 3 ∷ 4 ∷ 5 ∷ 6 ∷ 7 ∷ 8 ∷ 9 ∷ 10 ∷ 11 ∷ []

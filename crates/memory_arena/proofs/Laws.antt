@@ -10,7 +10,7 @@ use lib.Dec.{leb, ltb, eqb}
 use lib.ListN.{length}
 use borrow.Author.Tests.{le-leb, lt-leb, lt-ltb, le-ltb, leb-true, leb-false, ltb-true, ltb-false, eqb-true, eqb-false, eq-eqb, ne-eqb}
 use Rattle.limits.specs.Limits.{pageSize, arenaLimit}
-use Rattle.limits.specs.Refusals.{listed, unlisted}
+use Rattle.limits.specs.Refusals.{Asked, permitted}
 use Rattle.spans.specs.Span.{readSpan, overwrite}
 use Rattle.numbers.proofs.Tests.{both, both-true, left-false, right-false, same-test}
 use Rattle.memory_arena.specs.Address.{addressOf, pageOf, placeOf}
@@ -271,19 +271,19 @@ reach-in a len at n e =
     good-in pageSize a at n len (sensible-facts a len (p .0) .stands) (p .1)
 
 -- room is no refusal
-pub room-said : (s : ℕ) (a : Arena) (len n : ℕ) (ns : List ℕ) → listed ns (saidAllocated (roomFor s a len n) .number) ≡ true
+pub room-said : (s : ℕ) (a : Arena) (len n : ℕ) (q : Asked) → permitted q (saidAllocated (roomFor s a len n)) ≡ true
 unfolding roomFor
-room-said s a len n ns = go (leb (a .used + n) (capacityOf s len (a .page))) (leb n (capacityOf s len (a .page + 1)))
+room-said s a len n q = go (leb (a .used + n) (capacityOf s len (a .page))) (leb n (capacityOf s len (a .page + 1)))
   where
     go : (t u : Bool)
-        → listed ns
+        → permitted q
         (saidAllocated
         (cond t (At (addressOf s (a .page) (a .used)) (record { page = a .page; used = a .used + n }))
-        (cond u (At (addressOf s (a .page + 1) 0) (record { page = a .page + 1; used = n })) NoRoom)) .number)
+        (cond u (At (addressOf s (a .page + 1) 0) (record { page = a .page + 1; used = n })) NoRoom)))
         ≡ true
-    go true u = unlisted ns
-    go false true = unlisted ns
-    go false false = unlisted ns
+    go true u = refl
+    go false true = refl
+    go false false = refl
 
 pub read-done : (a : Arena) (pages : List ℕ) (at : ℕ) (output : List ℕ) → reachable a (length pages) at (length output) ≡ true
     → readOf a pages at output ≡ out Done (readSpan at (length output) pages)

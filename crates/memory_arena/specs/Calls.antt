@@ -2,12 +2,13 @@
 -- lowest first: 9 an allocation of 0 or over a page's bytes; 10 a span that isn't good, a lent length that creation refuses, or a
 -- state whose page or used count exceeds it.
 use Prim.Native.Nat.{ℕ, _≤_}
+use mathlib.Core.Path.{_≡_, refl}
 use mathlib.Core.Bool.{Bool, cond, _&&_, _||_}
 use mathlib.Core.List.{List, [], _∷_}
 use lib.Dec.{leb, ltb, eqb}
-use lib.ListN.{length}
+use lib.ListN.{length, replicate}
 use Rattle.limits.specs.Limits.{pageSize, arenaLimit}
-use Rattle.limits.specs.Refusals.{Said, answered, refused}
+use Rattle.limits.specs.Refusals.{Said, answered, refused, done, anAddress, noRoom, one-outcome}
 use Rattle.spans.specs.Span.{readSpan, overwrite}
 use Rattle.memory_arena.specs.declared.Arena.{Arena}
 use Rattle.memory_arena.specs.declared.Allocated.{Allocated}
@@ -24,12 +25,12 @@ sensible a len = lendable arenaLimit len && standing pageSize a len
 -- ---- this paper's number and values of each answer
 
 abbrev pub saidAllocated : Allocated → Said
-saidAllocated (At address a) = answered (address ∷ a .page ∷ a .used ∷ [])
-saidAllocated NoRoom = answered []
+saidAllocated (At address a) = answered anAddress (address ∷ a .page ∷ a .used ∷ [])
+saidAllocated NoRoom = answered noRoom []
 saidAllocated (Refused n) = refused n []
 
 abbrev pub saidTouched : Touched → Said
-saidTouched Done = answered []
+saidTouched Done = answered done []
 saidTouched (Declined n) = refused n []
 
 -- ---- the calls
@@ -68,3 +69,38 @@ writeOf a pages at bytes =
 unfoldable pub sliceOf : Arena → List ℕ → ℕ → ℕ → List ℕ
 unfolding reachable readSpan
 sliceOf a pages at n = cond (reachable a (length pages) at n) (readSpan at n pages) []
+
+-- ---- a row a case: what each call says then, of an arena of 100 bytes with so many used
+
+abbrev used : ℕ → Arena
+used n = record { page = 0; used = n }
+
+abbrev hundred : List ℕ
+hundred = replicate 100 7
+
+pub said-cases : (saidAllocated (allocateOf (used 88) 100 12) ≡ answered anAddress (88 ∷ 0 ∷ 100 ∷ []))
+    × (saidAllocated (allocateOf (used 89) 100 12) ≡ answered noRoom [])
+    × (saidAllocated (allocateOf (used 101) 100 0) ≡ refused 9 [])
+    × (saidAllocated (allocateOf (used 101) 100 12) ≡ refused 10 [])
+    × (saidTouched (readOf (used 88) hundred 86 (0 ∷ 0 ∷ []) .answer) ≡ answered done [])
+    × (saidTouched (readOf (used 88) hundred 87 (0 ∷ 0 ∷ []) .answer) ≡ refused 10 [])
+    × (saidTouched (writeOf (used 88) hundred 86 (0 ∷ 0 ∷ []) .answer) ≡ answered done [])
+    × (saidTouched (writeOf (used 88) hundred 87 (0 ∷ 0 ∷ []) .answer) ≡ refused 10 [])
+unfolding allocateOf readOf writeOf
+said-cases = (refl, refl, refl, refl, refl, refl, refl, refl)
+
+-- ---- the promises permit one outcome each
+
+pub allocate-settled : (a : Arena) (len n : ℕ) {x y : Allocated} → x ≡ allocateOf a len n → y ≡ allocateOf a len n → x ≡ y
+allocate-settled a len n p q = one-outcome p q
+
+pub read-settled : (a : Arena) (pages : List ℕ) (at : ℕ) (output : List ℕ) {x y : Out}
+    → x ≡ readOf a pages at output → y ≡ readOf a pages at output → x ≡ y
+read-settled a pages at output p q = one-outcome p q
+
+pub write-settled : (a : Arena) (pages : List ℕ) (at : ℕ) (bytes : List ℕ) {x y : Out}
+    → x ≡ writeOf a pages at bytes → y ≡ writeOf a pages at bytes → x ≡ y
+write-settled a pages at bytes p q = one-outcome p q
+
+pub slice-settled : (a : Arena) (pages : List ℕ) (at n : ℕ) {x y : List ℕ} → x ≡ sliceOf a pages at n → y ≡ sliceOf a pages at n → x ≡ y
+slice-settled a pages at n p q = one-outcome p q

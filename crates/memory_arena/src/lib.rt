@@ -6,11 +6,10 @@
 // place in the slice, and only the test for good spans needs its page. It uses limits, numbers, spans and fastcpy.
 ghost use mathlib.Core.Path.{_≡_};
 ghost use mathlib.Core.Bool.{true};
-ghost use mathlib.Core.List.{[], _∷_};
 ghost use Prim.Native.Nat.{_+_, _≤_, _<_, _%_, _^_};
 ghost use lib.ListN.{length};
 ghost use Rattle.limits.specs.Limits.{pageSize, arenaLimit};
-ghost use Rattle.limits.specs.Refusals.{listed};
+ghost use Rattle.limits.specs.Refusals.{allocating, touching, permitted};
 ghost use Rattle.numbers.specs.Wrap.{wrapAdd};
 ghost use Rattle.spans.specs.Span.{readSpan, overwrite};
 ghost use Rattle.memory_arena.specs.Address.{addressOf, pageOf, placeOf};
@@ -169,7 +168,8 @@ pub fn find_room(arena: Arena, len: usize, n: usize) -> Allocated
 
 // Allocates n bytes: an address and the state after it.
 pub fn allocate_space(arena: Arena, len: usize, n: usize) -> Allocated
-    ensures { λ r. ⌜ (r ≡ allocateOf arena len n) × (listed (9 ∷ 10 ∷ []) (saidAllocated r .number) ≡ true) ⌝ }
+    ensures settled { λ r. ⌜ r ≡ allocateOf arena len n ⌝ }
+    ensures numbered { λ r. ⌜ permitted allocating (saidAllocated r) ≡ true ⌝ }
 {
     if n == 0 {
         return Allocated::Refused(9);
@@ -187,7 +187,8 @@ pub fn allocate_space(arena: Arena, len: usize, n: usize) -> Allocated
 
 // Reads as many bytes as the output has, from an address.
 pub fn read(arena: Arena, pages: &[u8], at: u32, output: &mut [u8]) -> Touched
-    ensures { λ r. ⌜ (out r (now (output .exit)) ≡ readOf arena (now (pages .entry)) at (now (output .entry))) × (listed (10 ∷ []) (saidTouched r .number) ≡ true) ⌝ }
+    ensures settled { λ r. ⌜ out r (now (output .exit)) ≡ readOf arena (now (pages .entry)) at (now (output .entry)) ⌝ }
+    ensures numbered { λ r. ⌜ permitted touching (saidTouched r) ≡ true ⌝ }
 {
     let n = output.len();
     if is_reachable(arena, pages.len(), at, n) {
@@ -201,7 +202,8 @@ pub fn read(arena: Arena, pages: &[u8], at: u32, output: &mut [u8]) -> Touched
 
 // Writes bytes at an address.
 pub fn write_at(arena: Arena, pages: &mut [u8], at: u32, bytes: &[u8]) -> Touched
-    ensures { λ r. ⌜ (out r (now (pages .exit)) ≡ writeOf arena (now (pages .entry)) at (now (bytes .entry))) × (listed (10 ∷ []) (saidTouched r .number) ≡ true) ⌝ }
+    ensures settled { λ r. ⌜ out r (now (pages .exit)) ≡ writeOf arena (now (pages .entry)) at (now (bytes .entry)) ⌝ }
+    ensures numbered { λ r. ⌜ permitted touching (saidTouched r) ≡ true ⌝ }
 {
     if is_reachable(arena, pages.len(), at, bytes.len()) {
         fastcpy::copy_in(pages, at as usize, bytes);

@@ -13,7 +13,7 @@ use lib.Seq.{drop-cons, drop-set-lt, take-suc-set, set-split, length-take-le, ap
 use borrow.Author.Tests.{ltb-true, ltb-false, lt-ltb, le-ltb, le-leb, lt-leb}
 use Rattle.numbers.specs.LittleEndian.{Bytes}
 use Rattle.numbers.proofs.Tests.{both}
-use Rattle.limits.specs.Refusals.{listed}
+use Rattle.limits.specs.Refusals.{unvinting, permitted}
 use Rattle.vint.specs.declared.Unvint.{Unvint}
 use Rattle.vint.specs.declared.Unvint.the-variants.{Number}
 use Rattle.vint.specs.Vint.{vintLimit, vintBytes, writeVint, TopOnLast, Taken, ended, unended, grouped, takeVint, answerOf, readVint, saidUnvint}
@@ -313,9 +313,9 @@ module _ {w : ℕ} {bs : List ℕ} {sum unit at : ℕ} (h : Reading w bs sum uni
 
 -- what the loop found is the reader's answer, and a refusal is a listed one
 pub answers : (bs : List ℕ) (t : Taken) (r : Unvint) → takeVint vintLimit bs ≡ t → r ≡ answerOf t
-    → (r ≡ readVint bs) × (listed (11 ∷ []) (saidUnvint r .number) ≡ true)
+    → (r ≡ readVint bs) × (permitted unvinting (saidUnvint r) ≡ true)
 answers bs t r e f = (f ∙ sym (ap answerOf e), rw f (known t))
   where
-    known : (t : Taken) → listed (11 ∷ []) (saidUnvint (answerOf t) .number) ≡ true
+    known : (t : Taken) → permitted unvinting (saidUnvint (answerOf t)) ≡ true
     known (ended v k) = refl
     known unended = refl

@@ -1,11 +1,12 @@
 -- Document 01, "Hash and vint": a vint is seven bits a byte, low group first, the top bit (128) set on the last byte only.
 -- What is taken from bytes and what that answers are two definitions: a rule on which vints are accepted changes the second alone.
 use Prim.Native.Nat.{ℕ, zero, suc, _+_, _-_, _*_, _/_, _%_, _^_, _≤_, _<_}
+use mathlib.Core.Path.{_≡_, refl}
 use mathlib.Core.Bool.{cond}
 use mathlib.Core.List.{List, [], _∷_, _++_}
 use lib.Dec.{leb, ltb}
 use lib.ListN.{length, replicate}
-use Rattle.limits.specs.Refusals.{Said, answered, refused}
+use Rattle.limits.specs.Refusals.{Said, answered, refused, aNumber, one-outcome}
 use Rattle.vint.specs.declared.Vint.{Vint}
 use Rattle.vint.specs.declared.Unvint.{Unvint}
 use Rattle.vint.specs.declared.Unvint.the-variants.{Number, Refused}
@@ -63,5 +64,18 @@ readVint bs = answerOf (takeVint vintLimit bs)
 
 -- what the reader's answer says
 abbrev pub saidUnvint : Unvint → Said
-saidUnvint (Number v k) = answered (v ∷ k ∷ [])
+saidUnvint (Number v k) = answered aNumber (v ∷ k ∷ [])
 saidUnvint (Refused n) = refused n []
+
+-- a row a case: what the call says then
+pub said-cases : (saidUnvint (readVint (0x2C ∷ 0x82 ∷ [])) ≡ answered aNumber (300 ∷ 2 ∷ []))
+    × (saidUnvint (readVint (0x2C ∷ [])) ≡ refused 11 [])
+unfolding takeVint
+said-cases = (refl, refl)
+
+-- the promises permit one outcome each
+pub vint-settled : (n : ℕ) {x y : Vint} → x ≡ vintOf n → y ≡ vintOf n → x ≡ y
+vint-settled n p q = one-outcome p q
+
+pub unvint-settled : (bs : List ℕ) {x y : Unvint} → x ≡ readVint bs → y ≡ readVint bs → x ≡ y
+unvint-settled bs p q = one-outcome p q

@@ -7,7 +7,7 @@ ghost use mathlib.Core.Path.{_≡_};
 ghost use mathlib.Core.Bool.{true};
 ghost use mathlib.Core.List.{[], _∷_};
 ghost use Prim.Native.Nat.{_+_, _*_, _%_, _^_, _≤_, _<_};
-ghost use Rattle.limits.specs.Refusals.{listed};
+ghost use Rattle.limits.specs.Refusals.{unvinting, permitted};
 ghost use Rattle.vint.specs.Vint.{vintOf, ended, answerOf, readVint, saidUnvint};
 
 // A vint by value: its bytes, zeros after them, and how many they are.
@@ -71,7 +71,8 @@ fn answered(sum: u64, taken: usize) -> Unvint
 
 // The number that bytes begin with, as a vint.
 pub fn read_u32_vint(bytes: &[u8]) -> Unvint
-    ensures { λ r. ⌜ (r ≡ readVint (now (bytes .entry))) × (listed (11 ∷ []) (saidUnvint r .number) ≡ true) ⌝ }
+    ensures settled { λ r. ⌜ r ≡ readVint (now (bytes .entry)) ⌝ }
+    ensures numbered { λ r. ⌜ permitted unvinting (saidUnvint r) ≡ true ⌝ }
 {
     let mut sum: u64 = 0;
     let mut unit: u64 = 1;

@@ -1,6 +1,5 @@
 -- The refusals in their order, then the room. Assumes nothing.
 use mathlib.Core.Bool.{true}
-use mathlib.Core.List.{[], _∷_}
 use mathlib.Core.Path.{_≡_, refl, sym, subst, _∙_}
 use native.Mathlib.Omega.{arith}
 use borrow.Author.Needs.{needs}
@@ -8,7 +7,7 @@ use borrow.Author.Tests.{eq-eqb, ne-eqb, lt-ltb, le-ltb}
 use Rattle.memory_arena.proofs.Laws.{room-said}
 use Rattle.memory_arena.specs.Calls.{allocateOf, saidAllocated}
 use Rattle.memory_arena.specs.declared.Allocated.{Allocated}
-use Rattle.limits.specs.Refusals.{listed}
+use Rattle.limits.specs.Refusals.{allocating, permitted}
 use Rattle.limits.specs.Limits.{pageSize}
 use Rattle.memory_arena.proofs.allocate_space.Statement.{statement}
 use Rattle.memory_arena.proofs.allocate_space.Tie as tie
@@ -35,7 +34,8 @@ returns-3 c =
     let a = c .before .before .before .before .before .args in
     let e = c .find-room .ensures in (
       e ∙ rw (ne-eqb (a .n) 0 (c .before .before .before .before .if1 .left), le-ltb pageSize (a .n) (c .before .before .before .if2 .left), sym (c .before .before .is-sensible .ensures) ∙ c .before .if3 .taken),
-      subst (λ (r : Allocated). listed (9 ∷ 10 ∷ []) (saidAllocated r .number) ≡ true) (sym e) (room-said pageSize (a .arena) (a .len) (a .n) (9 ∷ 10 ∷ [])),
+      subst (λ (r : Allocated). permitted allocating (saidAllocated r) ≡ true) (sym e)
+          (room-said pageSize (a .arena) (a .len) (a .n) allocating),
     )
 
 returns-4 : tie.Need-returns-4
