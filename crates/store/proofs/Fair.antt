@@ -9,7 +9,7 @@ use native.Mathlib.Omega.{arith}
 use lib.Dec.{leb, eqb}
 use lib.ListN.{length}
 use Rattle.limits.specs.Limits.{pageSize, nameLimit, recordExtra}
-use Rattle.limits.specs.Refusals.{listed}
+use Rattle.limits.specs.Refusals.{Asked, appending, lookingUp, measuring, readingLane, findingBlock, listingBuckets, isAmong, refusalNumbers, permitted}
 use Rattle.memory_arena.specs.declared.Arena.{Arena}
 use Rattle.memory_arena.specs.declared.Allocated.{Allocated}
 use Rattle.memory_arena.specs.declared.Allocated.the-variants.{At as Room·At, NoRoom, Refused as Room·Refused}
@@ -43,18 +43,15 @@ use Rattle.store.specs.Append.{Out, out, declined, isSaturated, isCrowde
 
 -- ---- append
 
-abbrev appendNumbers : List ℕ
-appendNumbers = 2 ∷ 3 ∷ 4 ∷ 5 ∷ 6 ∷ 7 ∷ []
-
 pub record Fair (st : State) (m : Lent) (o : Out) : Type 0 where
   pub kept : (st′ : State) (n : ℕ) → o .answer ≡ Declined st′ n → (st′ ≡ st) × (o .memory ≡ m)
-  pub numbered : listed appendNumbers (saidAppended (o .answer) .number) ≡ true
+  pub numbered : permitted appending (saidAppended (o .answer)) ≡ true
 
 fair-cond : {st : State} {m : Lent} (b : Bool) (x y : Out) → Fair st m x → Fair st m y → Fair st m (cond b x y)
 fair-cond true x y p q = p
 fair-cond false x y p q = q
 
-fair-declined : (st : State) (m : Lent) (n : ℕ) → listed appendNumbers n ≡ true → Fair st m (declined st m n)
+fair-declined : (st : State) (m : Lent) (n : ℕ) → isAmong n (refusalNumbers appending) ≡ true → Fair st m (declined st m n)
 fair-declined st m n h = record { kept = λ s k e. (sym (same s k e), refl); numbered = h }
   where
     same : (s : State) (k : ℕ) → Declined st n ≡ Declined s k → st ≡ s
@@ -111,14 +108,11 @@ module _ (st : State) (m : Lent) (name bytes : List ℕ) where
 
 -- ---- the calls by name that change nothing
 
-abbrev nameNumbers : List ℕ
-nameNumbers = 2 ∷ 3 ∷ 4 ∷ []
-
-pub fair-lookup : (st : State) (m : Lent) (name : List ℕ) → listed nameNumbers (saidLookup (lookupOf st m name) .number) ≡ true
+pub fair-lookup : (st : State) (m : Lent) (name : List ℕ) → permitted lookingUp (saidLookup (lookupOf st m name)) ≡ true
 unfolding lookupOf
 fair-lookup st m name = go (checked st m) (leb (length name) nameLimit) (walkOf st m name .met)
   where
-    go : (b c : Bool) (x : Met) → listed nameNumbers (saidLookup (cond b (cond c (Look·onMet x) (Failed 3)) (Failed 2)) .number) ≡ true
+    go : (b c : Bool) (x : Met) → permitted lookingUp (saidLookup (cond b (cond c (Look·onMet x) (Failed 3)) (Failed 2))) ≡ true
     go true true Empty = refl
     go true true (Standing at) = refl
     go true true Damaged = refl
@@ -126,47 +120,50 @@ fair-lookup st m name = go (checked st m) (leb (length name) nameLimit) (walkOf 
     go true false x = refl
     go false c x = refl
 
--- a lookup's number carries over to the answer
-carried : (ns : List ℕ) (l : Lookup) (k : ℕ → Answer) → listed ns (saidLookup l .number) ≡ true → ((at : ℕ) → listed ns (saidAnswer (k at) .number) ≡ true)
-    → listed ns (saidAnswer (onLookup l k) .number) ≡ true
-carried ns (At at) k h f = f at
-carried ns Missing k h f = h
-carried ns (Failed n) k h f = h
+-- a lookup's number carries over to a call whose numbers have a lookup's among them
+Wider : Asked → Type 0
+Wider q = (n : ℕ) → isAmong n (refusalNumbers lookingUp) ≡ true → isAmong n (refusalNumbers q) ≡ true
+
+carried : (q : Asked) → Wider q → (l : Lookup) (k : ℕ → Answer) → permitted lookingUp (saidLookup l) ≡ true
+    → ((at : ℕ) → permitted q (saidAnswer (k at)) ≡ true) → permitted q (saidAnswer (onLookup l k)) ≡ true
+unfolding Wider
+carried q wider (At at) k h f = f at
+carried q wider Missing k h f = refl
+carried q wider (Failed n) k h f = wider n h
 
 -- whatever a sound list answers, damage is 4
-sound-or-4 : (ns : List ℕ) (x : Answer) (b : Bool) → listed ns 4 ≡ true → listed ns (saidAnswer x .number) ≡ true → listed ns (saidAnswer (cond b x (Refused 4 0)) .number) ≡ true
-sound-or-4 ns x true f h = h
-sound-or-4 ns x false f h = f
+sound-or-4 : (q : Asked) (x : Answer) (b : Bool) → isAmong 4 (refusalNumbers q) ≡ true → permitted q (saidAnswer x) ≡ true
+    → permitted q (saidAnswer (cond b x (Refused 4 0))) ≡ true
+sound-or-4 q x true f h = h
+sound-or-4 q x false f h = f
 
-pub fair-length : (st : State) (m : Lent) (name : List ℕ) → listed nameNumbers (saidAnswer (lengthOf st m name) .number) ≡ true
-unfolding lengthOf lengthAt
+pub fair-length : (st : State) (m : Lent) (name : List ℕ) → permitted measuring (saidAnswer (lengthOf st m name)) ≡ true
+unfolding lengthOf lengthAt Wider
 fair-length st m name =
-    carried nameNumbers (lookupOf st m name) (lengthAt (m .keys)) (fair-lookup st m name)
-    (λ at. sound-or-4 nameNumbers _ (headerSound (m .keys) at) refl refl)
+    carried measuring (λ n h. h) (lookupOf st m name) (lengthAt (m .keys)) (fair-lookup st m name)
+    (λ at. sound-or-4 measuring _ (headerSound (m .keys) at) refl refl)
 
-pub fair-block : (st : State) (m : Lent) (name : List ℕ) (i : ℕ) → listed nameNumbers (saidAnswer (findBlockOf st m name i) .number) ≡ true
-unfolding findBlockOf blockAt
+pub fair-block : (st : State) (m : Lent) (name : List ℕ) (i : ℕ) → permitted findingBlock (saidAnswer (findBlockOf st m name i)) ≡ true
+unfolding findBlockOf blockAt Wider
 fair-block st m name i =
-    carried nameNumbers (lookupOf st m name) (blockAt st m i) (fair-lookup st m name)
-    (λ at. sound-or-4 nameNumbers _ (headerSound (m .keys) at) refl (go (blockOf (st .«list_arena») (m .lists) (headerOf (m .keys) at) i)))
+    carried findingBlock (λ n h. h) (lookupOf st m name) (blockAt st m i) (fair-lookup st m name)
+    (λ at. sound-or-4 findingBlock _ (headerSound (m .keys) at) refl
+        (go (blockOf (st .«list_arena») (m .lists) (headerOf (m .keys) at) i)))
   where
-    go : (b : Found·Block) → listed nameNumbers (saidAnswer (onBlock b) .number) ≡ true
+    go : (b : Found·Block) → permitted findingBlock (saidAnswer (onBlock b)) ≡ true
     go (BlockAt at n) = refl
     go NoBlock = refl
     go BadBlock = refl
 
 -- ---- reading
 
-abbrev readNumbers : List ℕ
-readNumbers = 2 ∷ 3 ∷ 4 ∷ 8 ∷ []
-
 -- only a reading changes the output
 pub record FairRead (output : List ℕ) (r : Read) : Type 0 where
   pub kept : (n told : ℕ) → r .answer ≡ Refused n told → r .output ≡ output
   pub kept-absent : r .answer ≡ Absent → r .output ≡ output
-  pub numbered : listed readNumbers (saidAnswer (r .answer) .number) ≡ true
+  pub numbered : permitted readingLane (saidAnswer (r .answer)) ≡ true
 
-fair-kept : (output : List ℕ) (a : Answer) → listed readNumbers (saidAnswer a .number) ≡ true → FairRead output (reading a output)
+fair-kept : (output : List ℕ) (a : Answer) → permitted readingLane (saidAnswer a) ≡ true → FairRead output (reading a output)
 fair-kept output a h = record { kept = λ n told e. refl; kept-absent = λ e. refl; numbered = h }
 
 fair-reading : (output written : List ℕ) (k : ℕ) → FairRead output (reading (Found (Reading k)) written)
@@ -190,35 +187,36 @@ fair-read-at st m at output =
     (fair-kept output (Refused 4 0) refl)
 
 pub fair-read : (st : State) (m : Lent) (name output : List ℕ) → FairRead output (readOf st m name output)
-unfolding readOf
+unfolding readOf Wider
 fair-read st m name output = go (lookupOf st m name) (fair-lookup st m name)
   where
-    wider : (a b c d e : Bool) → (a || (b || (c || e))) ≡ true → (a || (b || (c || (d || e)))) ≡ true
-    wider true b c d e h = refl
-    wider false true c d e h = refl
-    wider false false true d e h = refl
-    wider false false false true e h = refl
-    wider false false false false e h = h
+    wider : (a b c d : Bool) → (a || (b || (c || false))) ≡ true → (a || (b || (c || (d || false)))) ≡ true
+    wider true b c d h = refl
+    wider false true c d h = refl
+    wider false false true d h = refl
+    wider false false false true h = refl
+    wider false false false false h = h
 
-    more : (n : ℕ) → listed nameNumbers n ≡ true → listed readNumbers n ≡ true
-    more n h = wider (eqb n 2) (eqb n 3) (eqb n 4) (eqb n 8) (eqb n 0) h
+    more : Wider readingLane
+    more n h = wider (eqb n 2) (eqb n 3) (eqb n 4) (eqb n 8) h
 
-    go : (l : Lookup) → listed nameNumbers (saidLookup l .number) ≡ true → FairRead output (onLookupRead l (λ at. readAt st m at output) output)
+    go : (l : Lookup) → permitted lookingUp (saidLookup l) ≡ true
+        → FairRead output (onLookupRead l (λ at. readAt st m at output) output)
     go (At at) h = fair-read-at st m at output
     go Missing h = fair-kept output Absent refl
     go (Failed n) h = fair-kept output (Refused n 0) (more n h)
 
 -- ---- listing
 
-pub fair-next : (st : State) (m : Lent) (i : ℕ) → listed (2 ∷ 4 ∷ []) (saidListed (nextOf st m i) .number) ≡ true
+pub fair-next : (st : State) (m : Lent) (i : ℕ) → permitted listingBuckets (saidListed (nextOf st m i)) ≡ true
 unfolding nextOf onNext
 fair-next st m i = go (checked st m) (occupiedFrom (m .table) (firstOf st) (st .buckets - i) i)
   where
-    inner : (b : Bool) (j at : ℕ) → listed (2 ∷ 4 ∷ []) (saidListed (cond b (Bucket j at) (Stopped 4)) .number) ≡ true
+    inner : (b : Bool) (j at : ℕ) → permitted listingBuckets (saidListed (cond b (Bucket j at) (Stopped 4))) ≡ true
     inner true j at = refl
     inner false j at = refl
 
-    go : (b : Bool) (n : Next) → listed (2 ∷ 4 ∷ []) (saidListed (cond b (onNext n (st .«key_arena») (m .keys)) (Stopped 2)) .number) ≡ true
+    go : (b : Bool) (n : Next) → permitted listingBuckets (saidListed (cond b (onNext n (st .«key_arena») (m .keys)) (Stopped 2))) ≡ true
     go true (Occupied j at) = inner (goodRecord (st .«key_arena») (m .keys) at) j at
     go true NoBucket = refl
     go false n = refl

@@ -1,7 +1,9 @@
--- Each answer in document 01's terms: its number, 0 where it is no refusal, and the values it tells.
+-- Each answer in document 01's terms: its word and the values it tells, or a refusal's number and what is told beside it.
 use Prim.Native.Nat.{ℕ}
+use mathlib.Core.Bool.{cond}
 use mathlib.Core.List.{List, [], _∷_}
-use Rattle.limits.specs.Refusals.{Said, answered, refused}
+use lib.Dec.{eqb}
+use Rattle.limits.specs.Refusals.{Said, answered, refused, created, accepted, aPlace, absent, aLength, aReading, aBlock, noSuchBlock, aBucket, noBucket, aCount}
 use Rattle.store.specs.declared.Created.{Created}
 use Rattle.store.specs.declared.Created.the-variants.{Made, Barred}
 use Rattle.store.specs.declared.Appended.{Appended}
@@ -18,34 +20,38 @@ use Rattle.store.specs.declared.Counted.{Counted}
 use Rattle.store.specs.declared.Counted.the-variants.{Keys, Unknown}
 
 abbrev pub saidCreated : Created → Said
-saidCreated (Made st) = answered []
+saidCreated (Made st) = answered created []
 saidCreated (Barred n) = refused n []
 
 abbrev pub saidAppended : Appended → Said
-saidAppended (Accepted st) = answered []
+saidAppended (Accepted st) = answered accepted []
 saidAppended (Declined st n) = refused n []
 
 abbrev pub saidLookup : Lookup → Said
-saidLookup (At at) = answered (at ∷ [])
-saidLookup Missing = answered []
+saidLookup (At at) = answered aPlace (at ∷ [])
+saidLookup Missing = answered absent []
 saidLookup (Failed n) = refused n []
 
-abbrev pub saidOutcome : Outcome → List ℕ
-saidOutcome (Length n) = n ∷ []
-saidOutcome (Reading n) = n ∷ []
-saidOutcome (Block at n) = at ∷ n ∷ []
-saidOutcome NoSuchBlock = []
+abbrev pub saidOutcome : Outcome → Said
+saidOutcome (Length n) = answered aLength (n ∷ [])
+saidOutcome (Reading n) = answered aReading (n ∷ [])
+saidOutcome (Block at n) = answered aBlock (at ∷ n ∷ [])
+saidOutcome NoSuchBlock = answered noSuchBlock []
+
+-- "the length is told" with 8, and nothing with any other number
+abbrev pub toldWith : ℕ → ℕ → List ℕ
+toldWith n told = cond (eqb n 8) (told ∷ []) []
 
 abbrev pub saidAnswer : Answer → Said
-saidAnswer Absent = answered []
-saidAnswer (Found o) = answered (saidOutcome o)
-saidAnswer (Refused n told) = refused n (told ∷ [])
+saidAnswer Absent = answered absent []
+saidAnswer (Found o) = saidOutcome o
+saidAnswer (Refused n told) = refused n (toldWith n told)
 
 abbrev pub saidListed : Listed → Said
-saidListed (Bucket i at) = answered (i ∷ at ∷ [])
-saidListed NoMore = answered []
+saidListed (Bucket i at) = answered aBucket (i ∷ at ∷ [])
+saidListed NoMore = answered noBucket []
 saidListed (Stopped n) = refused n []
 
 abbrev pub saidCounted : Counted → Said
-saidCounted (Keys n) = answered (n ∷ [])
+saidCounted (Keys n) = answered aCount (n ∷ [])
 saidCounted (Unknown n) = refused n []

@@ -7,7 +7,7 @@ ghost use mathlib.Core.Bool.{true};
 ghost use mathlib.Core.List.{[], _∷_};
 ghost use lib.ListN.{length};
 ghost use Rattle.limits.specs.Limits.{arenaLimit};
-ghost use Rattle.limits.specs.Refusals.{listed};
+ghost use Rattle.limits.specs.Refusals.{creating, permitted};
 ghost use Rattle.memory_arena.specs.Pages.{lendable};
 ghost use Rattle.store.specs.Said.{saidCreated};
 ghost use Rattle.store.specs.Create.{out, creatable, freshState, createOf};
@@ -54,7 +54,8 @@ fn fresh_state(
 
 // A store of a capacity, rounded down to a power of two, over lent words and pages. Only the table's first words are written.
 pub fn create(capacity: usize, seed: u32, table: &mut [u32], keys: &[u8], lists: &[u8]) -> Created
-    ensures { λ r. ⌜ (out r (now (table .exit)) ≡ createOf capacity seed (now (table .entry)) (length (now (keys .entry))) (length (now (lists .entry)))) × (listed (1 ∷ []) (saidCreated r .number) ≡ true) ⌝ }
+    ensures settled { λ r. ⌜ out r (now (table .exit)) ≡ createOf capacity seed (now (table .entry)) (length (now (keys .entry))) (length (now (lists .entry))) ⌝ }
+    ensures numbered { λ r. ⌜ permitted creating (saidCreated r) ≡ true ⌝ }
 {
     let words = table.len();
     let key_bytes = keys.len();

@@ -16,7 +16,7 @@ ghost use mathlib.Core.Bool.{true};
 ghost use mathlib.Core.List.{[], _∷_};
 ghost use Prim.Native.Nat.{_+_, _≤_};
 ghost use lib.ListN.{length};
-ghost use Rattle.limits.specs.Refusals.{listed};
+ghost use Rattle.limits.specs.Refusals.{lookingUp, measuring, readingLane, findingBlock, listingBuckets, countingKeys, permitted};
 ghost use Rattle.memory_arena.specs.Calls.{sensible};
 ghost use Rattle.shared_arena_hashmap.specs.Probe.{valuePlace};
 ghost use Rattle.store.specs.Said.{saidLookup, saidAnswer, saidListed, saidCounted};
@@ -47,7 +47,8 @@ fn on_met(met: Met) -> Lookup
 
 // The place of a name's record, or absent.
 pub fn lookup(st: State, table: &[u32], keys: &[u8], lists: &[u8], name: &[u8]) -> Lookup
-    ensures { λ r. ⌜ (r ≡ lookupOf st (lent (now (table .entry)) (now (keys .entry)) (now (lists .entry))) (now (name .entry))) × (listed (2 ∷ 3 ∷ 4 ∷ []) (saidLookup r .number) ≡ true) ⌝ }
+    ensures settled { λ r. ⌜ r ≡ lookupOf st (lent (now (table .entry)) (now (keys .entry)) (now (lists .entry))) (now (name .entry)) ⌝ }
+    ensures numbered { λ r. ⌜ permitted lookingUp (saidLookup r) ≡ true ⌝ }
 {
     if !crate::check::is_whole_state(st, table.len(), keys.len(), lists.len()) {
         return Lookup::Failed(2);
@@ -107,7 +108,8 @@ fn length_at(keys: &[u8], at: u32) -> Answer
 
 // A lane's length.
 pub fn length(st: State, table: &[u32], keys: &[u8], lists: &[u8], name: &[u8]) -> Answer
-    ensures { λ r. ⌜ (r ≡ lengthOf st (lent (now (table .entry)) (now (keys .entry)) (now (lists .entry))) (now (name .entry))) × (listed (2 ∷ 3 ∷ 4 ∷ []) (saidAnswer r .number) ≡ true) ⌝ }
+    ensures settled { λ r. ⌜ r ≡ lengthOf st (lent (now (table .entry)) (now (keys .entry)) (now (lists .entry))) (now (name .entry)) ⌝ }
+    ensures numbered { λ r. ⌜ permitted measuring (saidAnswer r) ≡ true ⌝ }
 {
     let found = lookup(st, table, keys, lists, name);
     let Lookup::At(at) = found else {
@@ -153,7 +155,8 @@ pub fn read(
     name: &[u8],
     output: &mut [u8],
 ) -> Answer
-    ensures { λ r. ⌜ (reading r (now (output .exit)) ≡ readOf st (lent (now (table .entry)) (now (keys .entry)) (now (lists .entry))) (now (name .entry)) (now (output .entry))) × (listed (2 ∷ 3 ∷ 4 ∷ 8 ∷ []) (saidAnswer r .number) ≡ true) ⌝ }
+    ensures settled { λ r. ⌜ reading r (now (output .exit)) ≡ readOf st (lent (now (table .entry)) (now (keys .entry)) (now (lists .entry))) (now (name .entry)) (now (output .entry)) ⌝ }
+    ensures numbered { λ r. ⌜ permitted readingLane (saidAnswer r) ≡ true ⌝ }
 {
     let found = lookup(st, table, keys, lists, name);
     let Lookup::At(at) = found else {
@@ -193,7 +196,8 @@ pub fn find_block(
     name: &[u8],
     index: usize,
 ) -> Answer
-    ensures { λ r. ⌜ (r ≡ findBlockOf st (lent (now (table .entry)) (now (keys .entry)) (now (lists .entry))) (now (name .entry)) index) × (listed (2 ∷ 3 ∷ 4 ∷ []) (saidAnswer r .number) ≡ true) ⌝ }
+    ensures settled { λ r. ⌜ r ≡ findBlockOf st (lent (now (table .entry)) (now (keys .entry)) (now (lists .entry))) (now (name .entry)) index ⌝ }
+    ensures numbered { λ r. ⌜ permitted findingBlock (saidAnswer r) ≡ true ⌝ }
 {
     let found = lookup(st, table, keys, lists, name);
     let Lookup::At(at) = found else {
@@ -242,7 +246,8 @@ fn on_next(keys: &[u8], arena: Arena, next: Next) -> Listed
 
 // The next occupied bucket from an index on, that one included.
 pub fn next_occupied(st: State, table: &[u32], keys: &[u8], lists: &[u8], index: usize) -> Listed
-    ensures { λ r. ⌜ (r ≡ nextOf st (lent (now (table .entry)) (now (keys .entry)) (now (lists .entry))) index) × (listed (2 ∷ 4 ∷ []) (saidListed r .number) ≡ true) ⌝ }
+    ensures settled { λ r. ⌜ r ≡ nextOf st (lent (now (table .entry)) (now (keys .entry)) (now (lists .entry))) index ⌝ }
+    ensures numbered { λ r. ⌜ permitted listingBuckets (saidListed r) ≡ true ⌝ }
 {
     if !crate::check::is_whole_state(st, table.len(), keys.len(), lists.len()) {
         return Listed::Stopped(2);
@@ -259,7 +264,8 @@ pub fn next_occupied(st: State, table: &[u32], keys: &[u8], lists: &[u8], index:
 
 // The number of keys.
 pub fn key_count(st: State, table: &[u32], keys: &[u8], lists: &[u8]) -> Counted
-    ensures { λ r. ⌜ (r ≡ countOf st (lent (now (table .entry)) (now (keys .entry)) (now (lists .entry)))) × (listed (2 ∷ []) (saidCounted r .number) ≡ true) ⌝ }
+    ensures settled { λ r. ⌜ r ≡ countOf st (lent (now (table .entry)) (now (keys .entry)) (now (lists .entry))) ⌝ }
+    ensures numbered { λ r. ⌜ permitted countingKeys (saidCounted r) ≡ true ⌝ }
 {
     if crate::check::is_whole_state(st, table.len(), keys.len(), lists.len()) {
         return Counted::Keys(st.keys);

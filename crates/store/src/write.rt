@@ -12,7 +12,7 @@ ghost use mathlib.Core.List.{[], _∷_};
 ghost use Prim.Native.Nat.{_+_, _/_, _≤_, _<_};
 ghost use lib.ListN.{length};
 ghost use Rattle.limits.specs.Limits.{nameLimit, bucketLimit};
-ghost use Rattle.limits.specs.Refusals.{listed};
+ghost use Rattle.limits.specs.Refusals.{appending, permitted};
 ghost use Rattle.spans.specs.Span.{overwrite};
 ghost use Rattle.shared_arena_hashmap.specs.Power.{grownLength};
 ghost use Rattle.shared_arena_hashmap.specs.Probe.{valuePlace};
@@ -250,7 +250,8 @@ pub fn append(
     name: &[u8],
     bytes: &[u8],
 ) -> Appended
-    ensures { λ r. ⌜ (out r (lent (now (table .exit)) (now (keys .exit)) (now (lists .exit))) ≡ appendOf st (lent (now (table .entry)) (now (keys .entry)) (now (lists .entry))) (now (name .entry)) (now (bytes .entry))) × (listed (2 ∷ 3 ∷ 4 ∷ 5 ∷ 6 ∷ 7 ∷ []) (saidAppended r .number) ≡ true) ⌝ }
+    ensures settled { λ r. ⌜ out r (lent (now (table .exit)) (now (keys .exit)) (now (lists .exit))) ≡ appendOf st (lent (now (table .entry)) (now (keys .entry)) (now (lists .entry))) (now (name .entry)) (now (bytes .entry)) ⌝ }
+    ensures numbered { λ r. ⌜ permitted appending (saidAppended r) ≡ true ⌝ }
 {
     if !crate::check::is_whole_state(st, table.len(), keys.len(), lists.len()) {
         return Appended::Declined(st, 2);

@@ -10,7 +10,7 @@ use Rattle.store.proofs.Whole.{whole-facts}
 use Rattle.store.specs.Look.{lent}
 use Rattle.store.specs.Said.{saidAnswer}
 use Rattle.store.specs.declared.Answer.{Answer}
-use Rattle.limits.specs.Refusals.{listed}
+use Rattle.limits.specs.Refusals.{findingBlock, permitted}
 use Rattle.store.proofs.look.find_block.Statement.{statement}
 use Rattle.store.proofs.look.find_block.Tie as tie
 
@@ -28,7 +28,7 @@ returns c =
     let a = c .before .before .before .before .before .before .before .args in
     let m = lent (a .table .now) (a .keys .now) (a .lists .now) in
     let e = c .not-found .ensures ∙ block-not (a .st) m (a .name .now) (a .index) _ (c .before .before .lookup .ensures .0) (c .before .match .keys2) in
-    (e, subst (λ (r : Answer). listed (2 ∷ 3 ∷ 4 ∷ []) (saidAnswer r .number) ≡ true) (sym e) (fair-block (a .st) m (a .name .now) (a .index)))
+    (e, subst (λ (r : Answer). permitted findingBlock (saidAnswer r) ≡ true) (sym e) (fair-block (a .st) m (a .name .now) (a .index)))
 
 block-at-requires : tie.Need-block-at-requires
 block-at-requires c κs =
@@ -41,7 +41,7 @@ returns-2 c =
     let a = c .before .before .before .before .before .before .before .before .before .args in
     let m = lent (a .table .now) (a .keys .now) (a .lists .now) in
     let e = c .block-at .ensures ∙ block-at (a .st) m (a .name .now) (a .index) _ (sym (c .before .before .before .before .lookup .ensures .0) ∙ c .before .before .found .given .1) in
-    (e, subst (λ (r : Answer). listed (2 ∷ 3 ∷ 4 ∷ []) (saidAnswer r .number) ≡ true) (sym e) (fair-block (a .st) m (a .name .now) (a .index)))
+    (e, subst (λ (r : Answer). permitted findingBlock (saidAnswer r) ≡ true) (sym e) (fair-block (a .st) m (a .name .now) (a .index)))
 
 pub find-block-spec : {M : Type 1} → statement M
 find-block-spec =

@@ -8,7 +8,7 @@ use Rattle.store.proofs.Found.{lookup-held, length-not, length-at}
 use Rattle.store.specs.Look.{lent}
 use Rattle.store.specs.Said.{saidAnswer}
 use Rattle.store.specs.declared.Answer.{Answer}
-use Rattle.limits.specs.Refusals.{listed}
+use Rattle.limits.specs.Refusals.{measuring, permitted}
 use Rattle.store.proofs.look.length.Statement.{statement}
 use Rattle.store.proofs.look.length.Tie as tie
 
@@ -26,7 +26,7 @@ returns c =
     let a = c .before .before .before .before .before .before .before .args in
     let m = lent (a .table .now) (a .keys .now) (a .lists .now) in
     let e = c .not-found .ensures ∙ length-not (a .st) m (a .name .now) _ (c .before .before .lookup .ensures .0) (c .before .match .keys2) in
-    (e, subst (λ (r : Answer). listed (2 ∷ 3 ∷ 4 ∷ []) (saidAnswer r .number) ≡ true) (sym e) (fair-length (a .st) m (a .name .now)))
+    (e, subst (λ (r : Answer). permitted measuring (saidAnswer r) ≡ true) (sym e) (fair-length (a .st) m (a .name .now)))
 
 length-at-requires : tie.Need-length-at-requires
 length-at-requires c κs =
@@ -39,7 +39,7 @@ returns-2 c =
     let a = c .before .before .before .before .before .before .before .before .before .args in
     let m = lent (a .table .now) (a .keys .now) (a .lists .now) in
     let e = c .length-at .ensures ∙ length-at (a .st) m (a .name .now) _ (sym (c .before .before .before .before .lookup .ensures .0) ∙ c .before .before .found .given .1) in
-    (e, subst (λ (r : Answer). listed (2 ∷ 3 ∷ 4 ∷ []) (saidAnswer r .number) ≡ true) (sym e) (fair-length (a .st) m (a .name .now)))
+    (e, subst (λ (r : Answer). permitted measuring (saidAnswer r) ≡ true) (sym e) (fair-length (a .st) m (a .name .now)))
 
 pub length-spec : {M : Type 1} → statement M
 length-spec =

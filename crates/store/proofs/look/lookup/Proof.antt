@@ -10,7 +10,7 @@ use Rattle.store.proofs.Found.{lookup-2, lookup-3, lookup-met}
 use Rattle.store.specs.Look.{lent}
 use Rattle.store.specs.Said.{saidLookup}
 use Rattle.store.specs.declared.Lookup.{Lookup}
-use Rattle.limits.specs.Refusals.{listed}
+use Rattle.limits.specs.Refusals.{lookingUp, permitted}
 use Rattle.store.proofs.look.lookup.Statement.{statement}
 use Rattle.store.proofs.look.lookup.Tie as tie
 
@@ -38,7 +38,7 @@ returns-3 c =
     let a = c .before .before .before .before .before .before .before .before .before .args in
     let m = lent (a .table .now) (a .keys .now) (a .lists .now) in
     let e = c .on-met .ensures ∙ sym (lookup-met (a .st) m (a .name .now) _ (sym (c .before .before .before .before .is-whole-state .ensures) ∙ not-false _ (c .before .before .before .if1 .left)) (omega arith) (sym (ap (λ w. w .met) (c .before .walk .ensures)))) in
-    (e, subst (λ (r : Lookup). listed (2 ∷ 3 ∷ 4 ∷ []) (saidLookup r .number) ≡ true) (sym e) (fair-lookup (a .st) m (a .name .now)))
+    (e, subst (λ (r : Lookup). permitted lookingUp (saidLookup r) ≡ true) (sym e) (fair-lookup (a .st) m (a .name .now)))
 
 pub lookup-spec : {M : Type 1} → statement M
 lookup-spec =

@@ -15,7 +15,7 @@ use Rattle.store.specs.Said.{saidListed}
 use Rattle.store.specs.declared.Listed.{Listed}
 use Rattle.shared_arena_hashmap.specs.Probe.{occupiedFrom}
 use Rattle.shared_arena_hashmap.specs.declared.Next.{Next}
-use Rattle.limits.specs.Refusals.{listed}
+use Rattle.limits.specs.Refusals.{listingBuckets, permitted}
 use Rattle.store.proofs.look.next_occupied.Statement.{statement}
 use Rattle.store.proofs.look.next_occupied.Tie as tie
 
@@ -65,7 +65,7 @@ returns-3 c =
     let e = c .on-next .ensures
     ∙ ap (λ (n : Next). onNext n (a .st .«key_arena») (a .keys .now)) (c .before .next-occupied .ensures ∙ ap (λ (f : ℕ). occupiedFrom (a .table .now) f (a .st .buckets - a .index) (a .index)) (c .before .before .first-bucket .ensures))
     ∙ sym (next-on (a .st) m (a .index) (sym (c .before .before .before .before .before .before .is-whole-state .ensures) ∙ not-false _ (c .before .before .before .before .before .if1 .left))) in
-    (e, subst (λ (r : Listed). listed (2 ∷ 4 ∷ []) (saidListed r .number) ≡ true) (sym e) (fair-next (a .st) m (a .index)))
+    (e, subst (λ (r : Listed). permitted listingBuckets (saidListed r) ≡ true) (sym e) (fair-next (a .st) m (a .index)))
 
 pub next-occupied-spec : {M : Type 1} → statement M
 next-occupied-spec =

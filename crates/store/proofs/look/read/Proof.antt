@@ -10,7 +10,7 @@ use Rattle.store.proofs.Whole.{whole-facts}
 use Rattle.store.specs.Look.{Read, lent, reading}
 use Rattle.store.specs.Said.{saidAnswer}
 use Rattle.store.specs.declared.Answer.{Answer}
-use Rattle.limits.specs.Refusals.{listed}
+use Rattle.limits.specs.Refusals.{readingLane, permitted}
 use Rattle.store.proofs.look.read.Statement.{statement}
 use Rattle.store.proofs.look.read.Tie as tie
 
@@ -28,7 +28,7 @@ returns c =
     let a = c .before .before .before .before .before .before .before .before .args in
     let m = lent (a .table .now) (a .keys .now) (a .lists .now) in
     let e = ap (λ (r : Answer). reading r (a .output .now)) (c .not-found .ensures) ∙ read-not (a .st) m (a .name .now) (a .output .now) _ (c .before .before .lookup .ensures .0) (c .before .match .keys2) in
-    (e, subst (λ (r : Read). listed (2 ∷ 3 ∷ 4 ∷ 8 ∷ []) (saidAnswer (r .answer) .number) ≡ true) (sym e) (fair-read (a .st) m (a .name .now) (a .output .now) .numbered))
+    (e, subst (λ (r : Read). permitted readingLane (saidAnswer (r .answer)) ≡ true) (sym e) (fair-read (a .st) m (a .name .now) (a .output .now) .numbered))
 
 read-at-requires : tie.Need-read-at-requires
 read-at-requires c κs =
@@ -44,7 +44,7 @@ returns-2 c =
     let a = c .before .before .before .before .before .before .before .before .before .before .before .before .before .args in
     let m = lent (a .table .now) (a .keys .now) (a .lists .now) in
     let e = c .before .before .read-at .ensures ∙ read-at (a .st) m (a .name .now) (a .output .now) _ (sym (c .before .before .before .before .before .before .before .lookup .ensures .0) ∙ c .before .before .before .before .before .found .given .1) in
-    (e, subst (λ (r : Read). listed (2 ∷ 3 ∷ 4 ∷ 8 ∷ []) (saidAnswer (r .answer) .number) ≡ true) (sym e) (fair-read (a .st) m (a .name .now) (a .output .now) .numbered))
+    (e, subst (λ (r : Read). permitted readingLane (saidAnswer (r .answer)) ≡ true) (sym e) (fair-read (a .st) m (a .name .now) (a .output .now) .numbered))
 
 pub read-spec : {M : Type 1} → statement M
 read-spec =

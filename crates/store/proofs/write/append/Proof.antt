@@ -18,7 +18,7 @@ use Rattle.store.specs.declared.State.{State}
 use Rattle.shared_arena_hashmap.specs.declared.Walk.{Walk}
 use Rattle.shared_arena_hashmap.specs.declared.Met.the-variants.{Empty, Damaged, Lap}
 use Rattle.shared_arena_hashmap.specs.declared.Met.{Met}
-use Rattle.limits.specs.Refusals.{listed}
+use Rattle.limits.specs.Refusals.{appending, permitted}
 use Rattle.limits.specs.Limits.{nameLimit}
 use Rattle.store.proofs.write.append.Statement.{statement}
 use Rattle.store.proofs.write.append.Tie as tie
@@ -54,11 +54,11 @@ on-met c x e =
     let a = c .before .before .before .before .before .before .before .before .before .before .before .before .args in
     append-met (a .st) (lent (a .table .now) (a .keys .now) (a .lists .now)) (a .name .now) (a .bytes .now) x (whole (c .before .before .before .before)) (short (c .before .before .before .before)) (met-is c ∙ e)
 
--- an answer that is the definition's has a listed number
-listed-too : (st : State) (m : Lent) (name bytes : List ℕ) (r : Appended) (k : Lent) → out r k ≡ appendOf st m name bytes
-    → (out r k ≡ appendOf st m name bytes) × (listed (2 ∷ 3 ∷ 4 ∷ 5 ∷ 6 ∷ 7 ∷ []) (saidAppended r .number) ≡ true)
-listed-too st m name bytes r k e =
-    (e, subst (λ (o : Out). listed (2 ∷ 3 ∷ 4 ∷ 5 ∷ 6 ∷ 7 ∷ []) (saidAppended (o .answer) .number) ≡ true) (sym e) (fair-append st m name bytes .numbered))
+-- an answer that is the definition's has a number that is permitted
+numbered-too : (st : State) (m : Lent) (name bytes : List ℕ) (r : Appended) (k : Lent) → out r k ≡ appendOf st m name bytes
+    → (out r k ≡ appendOf st m name bytes) × (permitted appending (saidAppended r) ≡ true)
+numbered-too st m name bytes r k e =
+    (e, subst (λ (o : Out). permitted appending (saidAppended (o .answer)) ≡ true) (sym e) (fair-append st m name bytes .numbered))
 
 walk-requires : tie.Need-walk-requires
 walk-requires c κs = whole (c .before .before .before)
@@ -116,7 +116,7 @@ returns-4 : tie.Need-returns-4
 returns-4 c =
     let a = c .before .before .before .before .before .before .before .before .before .before .before .before .before .before .before .before .before .before .before .before .before .before .before .before .before .args in
     let m = lent (a .table .now) (a .keys .now) (a .lists .now) in
-    listed-too (a .st) m (a .name .now) (a .bytes .now) _ _
+    numbered-too (a .st) m (a .name .now) (a .bytes .now) _ _
     (c .before .before .before .before .before .before .append-standing .ensures ∙ sym (on-met (c .before .before .before .before .before .before .before .before .before .before .before .before .before) _ (c .before .before .before .before .before .before .before .before .before .before .before .met .given .1) ∙ met-standing (a .st) m (a .name .now) (a .bytes .now) _))
 
 same-length-7 : tie.Need-same-length-7
@@ -132,7 +132,7 @@ returns-5 : tie.Need-returns-5
 returns-5 c =
     let a = c .before .before .before .before .before .before .before .before .before .before .before .before .before .before .before .before .before .before .before .before .before .before .before .before .args in
     let m = lent (a .table .now) (a .keys .now) (a .lists .now) in
-    listed-too (a .st) m (a .name .now) (a .bytes .now) _ _
+    numbered-too (a .st) m (a .name .now) (a .bytes .now) _ _
     (c .before .before .before .before .before .before .append-new .ensures ∙ sym (on-met (c .before .before .before .before .before .before .before .before .before .before .before .before) Empty (c .before .before .before .before .before .before .before .before .before .before .enum-told2 .given .1) ∙ met-empty (a .st) m (a .name .now) (a .bytes .now)))
 
 same-length-10 : tie.Need-same-length-10
@@ -148,7 +148,7 @@ returns-6 : tie.Need-returns-6
 returns-6 c =
     let a = c .before .before .before .before .before .before .before .before .before .before .before .before .before .before .before .before .before .before .before .before .before .before .before .before .args in
     let m = lent (a .table .now) (a .keys .now) (a .lists .now) in
-    listed-too (a .st) m (a .name .now) (a .bytes .now) _ _
+    numbered-too (a .st) m (a .name .now) (a .bytes .now) _ _
     (c .before .before .before .before .before .before .append-after-lap .ensures ∙ sym (on-met (c .before .before .before .before .before .before .before .before .before .before .before .before) Lap (c .before .before .before .before .before .before .before .before .before .before .enum-told3 .given .1)))
 
 pub append-spec : {M : Type 1} → statement M
