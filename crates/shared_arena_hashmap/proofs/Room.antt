@@ -13,7 +13,13 @@ use lib.ListN.{length}
 use borrow.Author.Tests.{eq-eqb, ne-eqb, eqb-true, eqb-false}
 use Rattle.limits.specs.Limits.{nullAddress}
 use Rattle.shared_arena_hashmap.specs.Buckets.{addressAt, hashAt, emptyAt, withBucket, cleared}
-use Rattle.shared_arena_hashmap.specs.Probe.{nextBucket, startOf}
+use Rattle.fastcmp.specs.Equal.{equalBytes}
+use Rattle.memory_arena.specs.declared.Arena.{Arena}
+use Rattle.shared_arena_hashmap.specs.declared.Seen.{Seen}
+use Rattle.shared_arena_hashmap.specs.declared.Seen.the-variants.{Nothing, Same, Broken, Other}
+use Rattle.shared_arena_hashmap.specs.declared.Met.the-variants.{Empty}
+use Rattle.shared_arena_hashmap.specs.declared.Walk.{Walk}
+use Rattle.shared_arena_hashmap.specs.Probe.{goodRecord, keyAt, seenRecord, seenAt, nextBucket, startOf, onSeen, probe, lookup}
 use Rattle.shared_arena_hashmap.specs.Grow.{freeFrom, freeOf, entered, reentered, allReentered, grown}
 use Rattle.shared_arena_hashmap.proofs.Laws.{length-cleared}
 use Rattle.shared_arena_hashmap.proofs.Words.{bucket-other, bucket-address, bucket-hash, clear-address}
@@ -212,3 +218,41 @@ grown-empty n old first l t more inside =
       empties-all n (cleared first l t) old first l first l,
       rw add-zero at (empties-cleared first l t 0 l (omega arith) inside),
     ))
+
+seen-nothing : (t keys : List ℕ) (a : Arena) (b hash : ℕ) (name : List ℕ) → seenAt t keys a b hash name ≡ Nothing
+    → emptyAt t b ≡ true
+unfolding seenAt seenRecord
+seen-nothing t keys a b hash name e =
+    go (emptyAt t b) (eqb (hashAt t b) hash) (goodRecord a keys (addressAt t b)) (equalBytes (keyAt keys (addressAt t b)) name) e
+  where
+    go : (x y z w : Bool) → cond x Nothing (cond y (cond z (cond w (Same (addressAt t b)) Other) Broken) Other) ≡ Nothing → x ≡ true
+    go true y z w e = refl
+    go false true true true e = let z : _≡_ {A = ℕ} 0 1 = cc in absurd (omega arith)
+    go false true true false e = let z : _≡_ {A = ℕ} 0 1 = cc in absurd (omega arith)
+    go false true false w e = let z : _≡_ {A = ℕ} 0 1 = cc in absurd (omega arith)
+    go false false z w e = let z : _≡_ {A = ℕ} 0 1 = cc in absurd (omega arith)
+
+-- a lookup that ended at an empty bucket has seen one
+probe-empty : (t keys : List ℕ) (a : Arena) (first l hash : ℕ) (name : List ℕ) (n i k : ℕ) → i < l
+    → probe t keys a first l hash name n i k .met ≡ Empty → AnEmpty t first l
+unfolding probe AnEmpty
+probe-empty t keys a first l hash name zero i k h e = let z : _≡_ {A = ℕ} 0 1 = cc in absurd (omega arith)
+probe-empty t keys a first l hash name (suc n) i k h e =
+    go (seenAt t keys a (first + i) hash name) refl e
+    (probe-empty t keys a first l hash name n (nextBucket l i) (k + 1) (next-below l i h))
+  where
+    rest : Walk
+    rest = probe t keys a first l hash name n (nextBucket l i) (k + 1)
+
+    go : (s : Seen) → seenAt t keys a (first + i) hash name ≡ s → onSeen s (k + 1) rest .met ≡ Empty
+        → (rest .met ≡ Empty → AnEmpty t first l) → AnEmpty t first l
+    go Nothing p e f = (i, h, seen-nothing t keys a (first + i) hash name p)
+    go (Same at) p e f = let z : _≡_ {A = ℕ} 0 1 = cc in absurd (omega arith)
+    go Broken p e f = let z : _≡_ {A = ℕ} 0 1 = cc in absurd (omega arith)
+    go Other p e f = f e
+
+pub lookup-empty : (t keys : List ℕ) (a : Arena) (first l hash : ℕ) (name : List ℕ) → 0 < l
+    → lookup t keys a first l hash name .met ≡ Empty → (j : ℕ) × (j < l) × (emptyAt t (first + j) ≡ true)
+unfolding lookup AnEmpty
+lookup-empty t keys a first l hash name h e =
+    probe-empty t keys a first l hash name l (startOf l hash) 0 (start-below l hash h) e

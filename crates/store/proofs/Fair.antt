@@ -148,7 +148,7 @@ unfolding findBlockOf blockAt Wider
 fair-block st m name i =
     carried findingBlock (λ n h. h) (lookupOf st m name) (blockAt st m i) (fair-lookup st m name)
     (λ at. sound-or-4 findingBlock _ (headerSound (m .keys) at) refl
-        (go (blockOf (st .«list_arena») (m .lists) (headerOf (m .keys) at) i)))
+    (go (blockOf (st .«list_arena») (m .lists) (headerOf (m .keys) at) i)))
   where
     go : (b : Found·Block) → permitted findingBlock (saidAnswer (onBlock b)) ≡ true
     go (BlockAt at n) = refl

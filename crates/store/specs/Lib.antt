@@ -3,3 +3,5 @@ pub mod State
 pub mod Create
 pub mod Look
 pub mod Append
+pub mod Promises
+pub mod Cases

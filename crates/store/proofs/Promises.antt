@@ -1,0 +1,65 @@
+-- The store's promises, one value each. Assumes nothing.
+use Prim.Native.Nat.{ℕ}
+use mathlib.Core.Path.{_≡_, refl, sym, ap, _∙_}
+use mathlib.Core.Bool.{Bool, true, false, cond}
+use mathlib.Core.List.{List}
+use native.Mathlib.Omega.{arith}
+use lib.ListN.{length}
+use Rattle.limits.specs.Refusals.{one-outcome}
+use Rattle.shared_arena_hashmap.specs.Power.{roundedDown}
+use Rattle.shared_arena_hashmap.specs.Buckets.{cleared}
+use Rattle.store.specs.declared.State.{State}
+use Rattle.store.specs.declared.Created.the-variants.{Made, Barred}
+use Rattle.store.specs.declared.Appended.the-variants.{Declined}
+use Rattle.store.specs.declared.Answer.the-variants.{Absent, Refused}
+use Rattle.store.specs.Create.{out as creation, creatable, freshState, createOf}
+use Rattle.store.specs.Look.{Lent, reading, readOf}
+use Rattle.store.specs.Append.{out, declined, appendOf}
+use Rattle.store.specs.Promises.{Promises, Settled}
+use Rattle.store.proofs.Fair.{fair-append, fair-read}
+use Rattle.store.proofs.Kept.{create-whole, append-whole}
+use Rattle.store.proofs.Enters.{append-enters}
+
+create-refused : (capacity seed : ℕ) (table : List ℕ) (keyBytes listBytes n : ℕ)
+    → createOf capacity seed table keyBytes listBytes .answer ≡ Barred n
+    → createOf capacity seed table keyBytes listBytes ≡ creation (Barred 1) table
+unfolding createOf
+create-refused capacity seed table keyBytes listBytes n = go (creatable capacity (length table) keyBytes listBytes)
+  where
+    fresh : State
+    fresh = freshState seed (length table) keyBytes listBytes (roundedDown capacity)
+
+    go : (b : Bool) → cond b (creation (Made fresh) (cleared 0 (roundedDown capacity) table)) (creation (Barred 1) table) .answer ≡ Barred n
+        → cond b (creation (Made fresh) (cleared 0 (roundedDown capacity) table)) (creation (Barred 1) table) ≡ creation (Barred 1) table
+    go true e = let z : _≡_ {A = ℕ} 0 1 = cc in absurd (omega arith)
+    go false e = refl
+
+append-refused : (st : State) (m : Lent) (name bytes : List ℕ) (st′ : State) (n : ℕ)
+    → appendOf st m name bytes .answer ≡ Declined st′ n → appendOf st m name bytes ≡ declined st m n
+append-refused st m name bytes st′ n e =
+    let k = fair-append st m name bytes .kept st′ n e in
+    λ i. out ((e ∙ ap (λ (s : State). Declined s n) (k .0)) i) (k .1 i)
+
+pub promises : Promises
+promises = record {
+  create-refused = create-refused;
+  append-refused = append-refused;
+  read-refused = λ st m name output n told e. λ i. reading (e i) (fair-read st m name output .kept n told e i);
+  read-absent = λ st m name output e. λ i. reading (e i) (fair-read st m name output .kept-absent e i);
+  create-whole = create-whole;
+  append-whole = append-whole;
+  append-enters = append-enters;
+}
+
+pub settled : Settled
+settled = record {
+  create-settled = λ capacity seed table keyBytes listBytes x y p q. one-outcome p q;
+  append-settled = λ st m name bytes x y p q. one-outcome p q;
+  lookup-settled = λ st m name x y p q. one-outcome p q;
+  length-settled = λ st m name x y p q. one-outcome p q;
+  read-settled = λ st m name output x y p q. one-outcome p q;
+  block-settled = λ st m name i x y p q. one-outcome p q;
+  show-settled = λ st m at n x y p q. one-outcome p q;
+  next-settled = λ st m i x y p q. one-outcome p q;
+  count-settled = λ st m x y p q. one-outcome p q;
+}

@@ -1,0 +1,79 @@
+-- What the store promises of its calls on any memory, damaged or not, beyond each call's own equation: the named laws of document 01 that
+-- speak of more than one outcome. One record, a field a sentence; proofs/Promises.antt has its one value.
+use Prim.Native.Nat.{ℕ, _+_, _<_}
+use mathlib.Core.Path.{_≡_}
+use mathlib.Core.Bool.{true}
+use mathlib.Core.List.{List}
+use lib.ListN.{length}
+use Rattle.murmurhash2.specs.Murmur.{murmurHash2}
+use Rattle.shared_arena_hashmap.specs.Buckets.{addressAt, hashAt, emptyAt}
+use Rattle.shared_arena_hashmap.specs.Probe.{keyAt}
+use Rattle.store.specs.declared.State.{State}
+use Rattle.store.specs.declared.Created.{Created}
+use Rattle.store.specs.declared.Created.the-variants.{Made, Barred}
+use Rattle.store.specs.declared.Appended.the-variants.{Accepted, Declined}
+use Rattle.store.specs.declared.Lookup.{Lookup}
+use Rattle.store.specs.declared.Lookup.the-variants.{Missing}
+use Rattle.store.specs.declared.Answer.{Answer}
+use Rattle.store.specs.declared.Answer.the-variants.{Absent, Refused}
+use Rattle.store.specs.declared.Listed.{Listed}
+use Rattle.store.specs.declared.Counted.{Counted}
+use Rattle.store.specs.State.{firstOf}
+use Rattle.store.specs.Create.{Out as Creation, out as creation, createOf}
+use Rattle.store.specs.Look.{Lent, lent, checked, lookupOf, lengthOf, Read, reading, readOf, findBlockOf, showOf, nextOf, countOf}
+use Rattle.store.specs.Append.{Out, declined, tableGrown, appendOf}
+
+-- ---- a new name entered
+
+-- an append has entered a name: a bucket of the standing table that was empty, after any growth, now has the name's hash and the address of a
+-- record whose key is the name; and one key more is counted
+pub record Entered (st : State) (m : Lent) (name : List ℕ) (st′ : State) (m′ : Lent) : Type 0 where
+  pub bucket : ℕ
+  pub below : bucket < st′ .buckets
+  pub was-empty : emptyAt (tableGrown st (m .table)) (firstOf st′ + bucket) ≡ true
+  pub hashed : hashAt (m′ .table) (firstOf st′ + bucket) ≡ murmurHash2 (st .seed) name
+  pub named : keyAt (m′ .keys) (addressAt (m′ .table) (firstOf st′ + bucket)) ≡ name
+  pub counted : st′ .keys ≡ st .keys + 1
+
+-- ---- the promises
+
+pub record Promises : Type 0 where
+  -- "Nothing lent changes on a refusal; the state comes back equal."
+  pub create-refused : (capacity seed : ℕ) (table : List ℕ) (keyBytes listBytes n : ℕ)
+      → createOf capacity seed table keyBytes listBytes .answer ≡ Barred n
+      → createOf capacity seed table keyBytes listBytes ≡ creation (Barred 1) table
+  pub append-refused : (st : State) (m : Lent) (name bytes : List ℕ) (st′ : State) (n : ℕ)
+      → appendOf st m name bytes .answer ≡ Declined st′ n → appendOf st m name bytes ≡ declined st m n
+  pub read-refused : (st : State) (m : Lent) (name output : List ℕ) (n told : ℕ)
+      → readOf st m name output .answer ≡ Refused n told → readOf st m name output ≡ reading (Refused n told) output
+  -- nor does an absent lane's reading write
+  pub read-absent : (st : State) (m : Lent) (name output : List ℕ)
+      → readOf st m name output .answer ≡ Absent → readOf st m name output ≡ reading Absent output
+  -- what an accepted creation or append gives passes the whole-state check, or the next call would be refused for what this one did
+  pub create-whole : (capacity seed : ℕ) (table keys lists : List ℕ) (st : State)
+      → createOf capacity seed table (length keys) (length lists) .answer ≡ Made st
+      → checked st (lent (createOf capacity seed table (length keys) (length lists) .table) keys lists) ≡ true
+  pub append-whole : (st : State) (m : Lent) (name bytes : List ℕ) (st′ : State)
+      → appendOf st m name bytes .answer ≡ Accepted st′ → checked st′ (appendOf st m name bytes .memory) ≡ true
+  -- "A new key goes in the first empty bucket of its probe, after any growth": there always is one
+  pub append-enters : (st : State) (m : Lent) (name bytes : List ℕ) (st′ : State) → lookupOf st m name ≡ Missing
+      → appendOf st m name bytes .answer ≡ Accepted st′ → Entered st m name st′ (appendOf st m name bytes .memory)
+
+-- ---- "that two permitted outcomes coincide is itself proved": of each call, two outcomes that meet its contract are equal
+
+pub record Settled : Type 0 where
+  pub create-settled : (capacity seed : ℕ) (table : List ℕ) (keyBytes listBytes : ℕ) (x y : Creation)
+      → x ≡ createOf capacity seed table keyBytes listBytes → y ≡ createOf capacity seed table keyBytes listBytes → x ≡ y
+  pub append-settled : (st : State) (m : Lent) (name bytes : List ℕ) (x y : Out)
+      → x ≡ appendOf st m name bytes → y ≡ appendOf st m name bytes → x ≡ y
+  pub lookup-settled : (st : State) (m : Lent) (name : List ℕ) (x y : Lookup)
+      → x ≡ lookupOf st m name → y ≡ lookupOf st m name → x ≡ y
+  pub length-settled : (st : State) (m : Lent) (name : List ℕ) (x y : Answer)
+      → x ≡ lengthOf st m name → y ≡ lengthOf st m name → x ≡ y
+  pub read-settled : (st : State) (m : Lent) (name output : List ℕ) (x y : Read)
+      → x ≡ readOf st m name output → y ≡ readOf st m name output → x ≡ y
+  pub block-settled : (st : State) (m : Lent) (name : List ℕ) (i : ℕ) (x y : Answer)
+      → x ≡ findBlockOf st m name i → y ≡ findBlockOf st m name i → x ≡ y
+  pub show-settled : (st : State) (m : Lent) (at n : ℕ) (x y : List ℕ) → x ≡ showOf st m at n → y ≡ showOf st m at n → x ≡ y
+  pub next-settled : (st : State) (m : Lent) (i : ℕ) (x y : Listed) → x ≡ nextOf st m i → y ≡ nextOf st m i → x ≡ y
+  pub count-settled : (st : State) (m : Lent) (x y : Counted) → x ≡ countOf st m → y ≡ countOf st m → x ≡ y
