@@ -1,4 +1,5 @@
--- Document 01, "Lists": walking a list's blocks from its head, its reading, and finding a block. Block i, from 0, has block number i + 3.
+-- RULES U, R5. Document 01, "Lists": walking a list's blocks from its head, its reading, and finding a block. Block
+-- i, from 0, has block number i + 3.
 use Prim.Native.Nat.{ℕ, zero, suc, _+_, _-_}
 use mathlib.Core.Bool.{Bool, true, cond, _&&_}
 use mathlib.Core.List.{List, [], _++_}
@@ -15,44 +16,44 @@ use Rattle.expull.specs.declared.Walked.{Walked}
 use Rattle.expull.specs.declared.Walked.the-variants.{To, Stopped}
 use Rattle.expull.specs.Header.{blockSize, blockCount}
 
--- block i's address: the head, then each block's link
+-- RULES R5. Block i's address: the head, then each block's link.
 unfoldable pub blockPlace : List ℕ → ℕ → ℕ → ℕ
 unfolding leNumber readSpan blockSize
 blockPlace m head zero = head
 blockPlace m head (suc i) = leNumber (readSpan (blockPlace m head i + blockSize (i + 3)) linkSize m)
 
--- the first k blocks, bytes and link, are good spans
+-- RULES U1, W5. The first k blocks, bytes and link, are good spans.
 unfoldable pub goodBlocks : Arena → List ℕ → ℕ → ℕ → Bool
 unfolding blockPlace goodSpan
 goodBlocks a m head zero = true
 goodBlocks a m head (suc k) = goodBlocks a m head k && goodSpan pageSize a (blockPlace m head k) (blockSize (k + 3) + linkSize)
 
--- the bytes of the first k blocks, full
+-- RULES U2. The bytes of the first k blocks, full.
 unfoldable pub fullBlocks : List ℕ → ℕ → ℕ → List ℕ
 unfolding blockPlace
 fullBlocks m head zero = []
 fullBlocks m head (suc k) = fullBlocks m head k ++ readSpan (blockPlace m head k) (blockSize (k + 3)) m
 
--- a lane's bytes: the full blocks before the last, and the last as far as it is written
+-- RULES U2. A lane's bytes: the full blocks before the last, and the last as far as it is written.
 unfoldable pub laneBytes : List ℕ → Header → List ℕ
 unfolding fullBlocks
 laneBytes m h =
     cond (eqb (h .number) freshNumber) []
     (fullBlocks m (h .head) (blockCount h - 1) ++ readSpan (blockPlace m (h .head) (blockCount h - 1)) (blockSize (h .number) - h .remaining) m)
 
--- block i's bytes: the last one's only as far as it is written
+-- RULES U3. Block i's bytes: the last one's only as far as it is written.
 unfoldable pub blockLength : Header → ℕ → ℕ
 unfolding blockSize
 blockLength h i = cond (eqb (i + 1) (blockCount h)) (blockSize (h .number) - h .remaining) (blockSize (i + 3))
 
--- finding block i: past the last no block is met; else those up to it are
+-- RULES U4, W5. Finding block i: past the last no block is met; else those up to it are.
 unfoldable pub blockOf : Arena → List ℕ → Header → ℕ → Block
 unfolding goodBlocks blockLength
 blockOf a m h i =
     cond (leb (blockCount h) i) NoBlock
     (cond (goodBlocks a m (h .head) (i + 1)) (BlockAt (blockPlace m (h .head) i) (blockLength h i)) BadBlock)
 
--- walking along n blocks: where the next one is, or that one on the way isn't a good span
+-- RULES U1. Walking along n blocks: where the next one is, or that one on the way isn't a good span.
 unfoldable pub walkOf : Arena → List ℕ → ℕ → ℕ → Walked
 unfolding goodBlocks
 walkOf a m head n = cond (goodBlocks a m head n) (To (blockPlace m head n)) Stopped

@@ -1,4 +1,5 @@
--- Document 01, port step 2 and refusal 9: a copy between equal lengths; unequal lengths are refused, and nothing is written then.
+-- RULES H2. Document 01, port step 2 and refusal 9: a copy between equal lengths; unequal lengths are refused, and
+-- nothing is written then.
 use Prim.Native.Nat.{ℕ}
 use mathlib.Core.Path.{_≡_, refl}
 use mathlib.Core.Bool.{cond}
@@ -9,14 +10,16 @@ use Rattle.limits.specs.Refusals.{Said, answered, refused, done, one-outcome}
 use Rattle.fastcpy.specs.declared.Copied.{Copied}
 use Rattle.fastcpy.specs.declared.Copied.the-variants.{Done, Refused}
 
--- what a copy answers, and what the destination holds afterwards
+-- RULES H2. What a copy answers, and what the destination holds afterwards.
 pub record Out : Type 0 where
   pub answer : Copied
   pub dst : List ℕ
 
+-- RULES H2. Both put together.
 abbrev pub out : Copied → List ℕ → Out
 out a d = record { answer = a; dst = d }
 
+-- RULES H2. The destination becomes the source, or stays.
 unfoldable pub copyOf : List ℕ → List ℕ → Out
 copyOf src dst = cond (eqb (length src) (length dst)) (out Done src) (out (Refused 9) dst)
 

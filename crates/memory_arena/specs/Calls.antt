@@ -1,6 +1,6 @@
--- The calls on a bare arena: what each answers and leaves, for any state and any lent length. Refusals by document 01's numbers, the
--- lowest first: 9 an allocation of 0 or over a page's bytes; 10 a span that isn't good, a lent length that creation refuses, or a
--- state whose page or used count exceeds it.
+-- RULES G. The calls on a bare arena: what each answers and leaves, for any state and any lent length. Refusals by
+-- document 01's numbers, the lowest first: 9 an allocation of 0 or over a page's bytes; 10 a span that isn't good, a
+-- lent length that creation refuses, or a state whose page or used count exceeds it.
 use Prim.Native.Nat.{ℕ, _≤_}
 use mathlib.Core.Path.{_≡_, refl}
 use mathlib.Core.Bool.{Bool, cond, _&&_, _||_}
@@ -17,7 +17,7 @@ use Rattle.memory_arena.specs.declared.Touched.{Touched}
 use Rattle.memory_arena.specs.declared.Touched.the-variants.{Done, Declined}
 use Rattle.memory_arena.specs.Pages.{lendable, standing, goodSpan, roomFor}
 
--- the lent length is one that creation takes, and the state one of an arena of that length
+-- RULES G1, B4, B6. The lent length is one that creation takes, and the state one of an arena of that length.
 unfoldable pub sensible : Arena → ℕ → Bool
 unfolding standing
 sensible a len = lendable arenaLimit len && standing pageSize a len
@@ -35,37 +35,40 @@ saidTouched (Declined n) = refused n []
 
 -- ---- the calls
 
+-- RULES G2. An address and the state after it, no room, 9 or 10.
 unfoldable pub allocateOf : Arena → ℕ → ℕ → Allocated
 unfolding sensible roomFor
 allocateOf a len n =
     cond (eqb n 0 || ltb pageSize n) (Refused 9)
     (cond (sensible a len) (roomFor pageSize a len n) (Refused 10))
 
--- the span may be touched
+-- RULES G3. The span may be touched.
 unfoldable pub reachable : Arena → ℕ → ℕ → ℕ → Bool
 unfolding sensible goodSpan
 reachable a len at n = sensible a len && goodSpan pageSize a at n
 
--- the answer, and the lent memory that the call may write, as it leaves it
+-- RULES G4, G5. The answer, and the lent memory that the call may write, as it leaves it.
 pub record Out : Type 0 where
   pub answer : Touched
   pub memory : List ℕ
 
+-- RULES G4, G5. Both put together.
 abbrev pub out : Touched → List ℕ → Out
 out r m = record { answer = r; memory = m }
 
--- a read of as many bytes as the output has
+-- RULES G4. A read of as many bytes as the output has.
 unfoldable pub readOf : Arena → List ℕ → ℕ → List ℕ → Out
 unfolding reachable readSpan
 readOf a pages at output =
     cond (reachable a (length pages) at (length output)) (out Done (readSpan at (length output) pages)) (out (Declined 10) output)
 
+-- RULES G5. A write.
 unfoldable pub writeOf : Arena → List ℕ → ℕ → List ℕ → Out
 unfolding reachable overwrite
 writeOf a pages at bytes =
     cond (reachable a (length pages) at (length bytes)) (out Done (overwrite at bytes pages)) (out (Declined 10) pages)
 
--- a good span shown as a part of the lent pages; the empty part otherwise
+-- RULES G6. A good span shown as a part of the lent pages; the empty part otherwise.
 unfoldable pub sliceOf : Arena → List ℕ → ℕ → ℕ → List ℕ
 unfolding reachable readSpan
 sliceOf a pages at n = cond (reachable a (length pages) at n) (readSpan at n pages) []

@@ -1,5 +1,6 @@
--- Document 01: an append. "Whether a key stands is decided in the table before growth." Everything is planned before anything is written: each refusal,
--- the lowest that applies, leaves the lent memory and the state as they were.
+-- RULES V10 to V14. Document 01: an append. "Whether a key stands is decided in the table before growth." Everything
+-- is planned before anything is written: each refusal, the lowest that applies, leaves the lent memory and the state
+-- as they were.
 use Prim.Native.Nat.{ℕ, _+_, _-_, _*_}
 use mathlib.Core.Path.{_≡_}
 use mathlib.Core.Bool.{Bool, true, false, cond, _&&_, _||_, not}
@@ -30,36 +31,38 @@ use Rattle.store.specs.declared.Appended.the-variants.{Accepted, Decline
 use Rattle.store.specs.State.{wholeState, lentBuckets, firstOf}
 use Rattle.store.specs.Look.{Lent, lent, checked, walkOf, headerOf, headerSound}
 
--- the answer, and each lent slice as the call leaves it
+-- RULES V10. The answer, and each lent slice as the call leaves it.
 pub record Out : Type 0 where
   pub answer : Appended
   pub memory : Lent
 
+-- RULES V10. Both put together.
 abbrev pub out : Appended → Lent → Out
 out r m = record { answer = r; memory = m }
 
--- a refusal: everything as it was
+-- RULES V10, X4. A refusal: everything as it was.
 abbrev pub declined : State → Lent → ℕ → Out
 declined st m n = out (Declined st n) m
 
 -- ---- growth
 
--- "Growing needs L + new length ≤ T."
+-- RULES Q3. "Growing needs L + new length ≤ T."
 abbrev pub roomToGrow : State → Bool
 roomToGrow st = leb (st .buckets + grownLength (st .buckets)) (lentBuckets (st .words))
 
+-- RULES M6. Of the standing table.
 abbrev pub isSaturated : State → Bool
 isSaturated st = saturated (st .buckets) (st .keys)
 
--- saturated without room to grow: a new key can't be entered
+-- RULES Q6. Saturated without room to grow: a new key can't be entered.
 abbrev pub isCrowded : State → Bool
 isCrowded st = isSaturated st && not (roomToGrow st)
 
--- "An append on a saturated table grows it, even when the key stands already"; without room nothing grows
+-- RULES Q6. "An append on a saturated table grows it, even when the key stands already"; without room nothing grows.
 abbrev pub grows : State → Bool
 grows st = isSaturated st && roomToGrow st
 
--- the state with the grown table at the other end
+-- RULES Q5. The state with the grown table at the other end.
 abbrev pub grownState : State → State
 grownState st = record {
   seed = st .seed;
@@ -73,16 +76,19 @@ grownState st = record {
   «list_arena» = st .«list_arena»;
 }
 
+-- RULES Q5. The state afterwards, grown if it is to grow.
 unfoldable pub stateGrown : State → State
 stateGrown st = cond (grows st) (grownState st) st
 
+-- RULES Q4. And the table.
 unfoldable pub tableGrown : State → List ℕ → List ℕ
 unfolding grown
 tableGrown st t =
     cond (grows st) (grown (st .buckets) (firstOf st) (firstOf (grownState st)) (grownLength (st .buckets)) t) t
 
--- ---- what has to be known before anything is written: the state is whole, the list's header and tail are no damage, and its blocks fit
+-- ---- what has to be known before anything is written
 
+-- RULES V10. The state is whole, the list's header and tail are no damage, and its blocks fit.
 pub record Planned (st : State) (m : Lent) (h : Header) (bytes : List ℕ) : Type 0 where
   pub whole : checked st m ≡ true
   pub sound : soundHeader h 0 ≡ true
@@ -91,7 +97,7 @@ pub record Planned (st : State) (m : Lent) (h : Header) (bytes : List ℕ) : Typ
 
 -- ---- a standing lane
 
--- the state with other arena states and another number of keys
+-- RULES V12, V13. The state with other arena states and another number of keys.
 abbrev pub movedState : State → ℕ → Arena → Arena → State
 movedState st keys keyArena listArena = record {
   seed = st .seed;
@@ -105,7 +111,8 @@ movedState st keys keyArena listArena = record {
   «list_arena» = listArena;
 }
 
--- the list's outcome: its 16 header bytes are written anew, the list pages are as the list leaves them, the table is grown if it is to grow
+-- RULES V12. The list's outcome: its 16 header bytes are written anew, the list pages are as the list leaves them,
+-- the table is grown if it is to grow.
 unfoldable pub standingWritten : Option Writing → State → Lent → ℕ → Out
 unfolding stateGrown tableGrown valuePlace headerBytes overwrite
 standingWritten none st m at = declined st m 7
@@ -113,6 +120,7 @@ standingWritten (some w) st m at =
     out (Accepted (movedState (stateGrown st) (st .keys) (st .«key_arena») (w .arena)))
     (lent (tableGrown st (m .table)) (overwrite (valuePlace (m .keys) at) (headerBytes (w .header)) (m .keys)) (w .memory))
 
+-- RULES V12, W4. An append to a standing lane, whose record is at a place.
 unfoldable pub appendStanding : State → Lent → ℕ → List ℕ → Out
 unfolding headerSound goodTail appended standingWritten
 appendStanding st m at bytes =
@@ -122,12 +130,12 @@ appendStanding st m at bytes =
 
 -- ---- a new lane
 
--- "A record is the key length as 2 little-endian bytes, the key, a 16-byte value"
+-- RULES M4, V13. "A record is the key length as 2 little-endian bytes, the key, a 16-byte value".
 unfoldable pub recordBytes : List ℕ → Header → List ℕ
 unfolding leBytes headerBytes
 recordBytes name h = leBytes 2 (length name) ++ (name ++ headerBytes h)
 
--- "A new key goes in the first empty bucket of its probe, after any growth."
+-- RULES V13. "A new key goes in the first empty bucket of its probe, after any growth."
 unfoldable pub newWritten : Option Writing → State → Lent → List ℕ → ℕ → Arena → Out
 unfolding stateGrown tableGrown entered recordBytes murmurHash2
 newWritten none st m name at keyArena = declined st m 7
@@ -136,7 +144,7 @@ newWritten (some w) st m name at keyArena =
     (lent (entered (firstOf (stateGrown st)) (stateGrown st .buckets) at (murmurHash2 (st .seed) name) (tableGrown st (m .table)))
     (overwrite at (recordBytes name (w .header)) (m .keys)) (w .memory))
 
--- the new record's room; its list starts fresh
+-- RULES V13. The new record's room; its list starts fresh.
 unfoldable pub onKeyRoom : Allocated → State → Lent → List ℕ → List ℕ → Out
 unfolding newWritten appended
 onKeyRoom (At at keyArena) st m name bytes =
@@ -144,6 +152,7 @@ onKeyRoom (At at keyArena) st m name bytes =
 onKeyRoom NoRoom st m name bytes = declined st m 6
 onKeyRoom (Refused n) st m name bytes = declined st m 6
 
+-- RULES V13. An append to a name that doesn't stand.
 unfoldable pub appendNew : State → Lent → List ℕ → List ℕ → Out
 unfolding onKeyRoom roomFor
 appendNew st m name bytes =
@@ -152,7 +161,7 @@ appendNew st m name bytes =
 
 -- ---- the call
 
--- a lap without an empty bucket is damage where the table isn't saturated
+-- RULES V11, W2. A lap without an empty bucket is damage where the table isn't saturated.
 unfoldable pub onMet : Met → State → Lent → List ℕ → List ℕ → Out
 unfolding appendStanding appendNew
 onMet Damaged st m name bytes = declined st m 4
@@ -160,6 +169,7 @@ onMet (Standing at) st m name bytes = appendStanding st m at bytes
 onMet Empty st m name bytes = appendNew st m name bytes
 onMet Lap st m name bytes = cond (isSaturated st) (appendNew st m name bytes) (declined st m 4)
 
+-- RULES V1, V11. The call.
 unfoldable pub appendOf : State → Lent → List ℕ → List ℕ → Out
 unfolding wholeState walkOf onMet
 appendOf st m name bytes =

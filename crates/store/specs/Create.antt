@@ -1,5 +1,6 @@
--- Document 01, "Buckets": creation. "Creation rounds the capacity down to a power of two and writes that many empty buckets at the front of the lent
--- table, nothing else." Refusal 1: capacity 0; an arena of length 0 or too long; table words odd, too many, or under twice the rounded capacity.
+-- RULES C. Document 01, "Buckets": creation. "Creation rounds the capacity down to a power of two and writes that
+-- many empty buckets at the front of the lent table, nothing else." Refusal 1: capacity 0; an arena of length 0 or
+-- too long; table words odd, too many, or under twice the rounded capacity.
 use Prim.Native.Nat.{ℕ}
 use mathlib.Core.Bool.{Bool, true, false, cond, _&&_}
 use mathlib.Core.List.{List}
@@ -15,15 +16,16 @@ use Rattle.store.specs.declared.Created.{Created}
 use Rattle.store.specs.declared.Created.the-variants.{Made, Barred}
 use Rattle.store.specs.State.{lentBuckets, wordsTaken}
 
--- the answer, and the lent table as the call leaves it
+-- RULES C3. The answer, and the lent table as the call leaves it.
 pub record Out : Type 0 where
   pub answer : Created
   pub table : List ℕ
 
+-- RULES C3. Both put together.
 abbrev pub out : Created → List ℕ → Out
 out r t = record { answer = r; table = t }
 
--- what creation takes
+-- RULES C2. What creation takes.
 unfoldable pub creatable : ℕ → ℕ → ℕ → ℕ → Bool
 unfolding roundedDown
 creatable capacity words keyBytes listBytes =
@@ -31,10 +33,11 @@ creatable capacity words keyBytes listBytes =
     && (lendable arenaLimit keyBytes
     && (lendable arenaLimit listBytes && (wordsTaken words && leb (roundedDown capacity) (lentBuckets words))))
 
--- an arena with nothing used
+-- RULES C4. An arena with nothing used.
 abbrev pub unused : Arena
 unused = record { page = 0; used = 0 }
 
+-- RULES C4. A fresh store's state.
 abbrev pub freshState : ℕ → ℕ → ℕ → ℕ → ℕ → State
 freshState seed words keyBytes listBytes l = record {
   seed = seed;
@@ -48,6 +51,7 @@ freshState seed words keyBytes listBytes l = record {
   «list_arena» = unused;
 }
 
+-- RULES C2, C3. The call.
 unfoldable pub createOf : ℕ → ℕ → List ℕ → ℕ → ℕ → Out
 unfolding creatable cleared
 createOf capacity seed table keyBytes listBytes =

@@ -1,4 +1,4 @@
--- Document 01, "Numbers that bound the store": the whole-state check, which comes first in each store call.
+-- RULES B. Document 01, "Numbers that bound the store": the whole-state check, which comes first in each store call.
 use Prim.Native.Nat.{ℕ, _/_, _%_}
 use mathlib.Core.Bool.{Bool, _&&_}
 use lib.Dec.{leb, eqb}
@@ -8,29 +8,30 @@ use Rattle.shared_arena_hashmap.specs.Buckets.{firstBucket}
 use Rattle.shared_arena_hashmap.specs.Power.{powerOfTwo}
 use Rattle.store.specs.declared.State.{State}
 
--- T, the lent buckets
+-- RULES A4. T, the lent buckets.
 abbrev pub lentBuckets : ℕ → ℕ
 lentBuckets words = words / 2
 
--- table words such as creation takes: two a bucket, and not too many
+-- RULES A4, B4. Table words such as creation takes: two a bucket, and not too many.
 abbrev pub wordsTaken : ℕ → Bool
 wordsTaken words = eqb (words % 2) 0 && leb words wordLimit
 
--- "remembered lengths equal the lent ones"
+-- RULES B3. "remembered lengths equal the lent ones".
 abbrev pub lengthsEqual : State → ℕ → ℕ → ℕ → Bool
 lengthsEqual st words keyBytes listBytes = eqb (st .words) words && eqb (st .«key_bytes») keyBytes && eqb (st .«list_bytes») listBytes
 
--- "L is a power of two and at most the lent buckets T, keys at most L"
+-- RULES B5. "L is a power of two and at most the lent buckets T, keys at most L".
 abbrev pub tableFits : State → ℕ → Bool
 tableFits st words = powerOfTwo (st .buckets) && leb (st .buckets) (lentBuckets words) && leb (st .keys) (st .buckets)
 
--- "... and are such as creation takes ..., current page exists, used at most that page's capacity": of each arena
+-- RULES B2. "... and are such as creation takes ..., current page exists, used at most that page's capacity": of each
+-- arena.
 unfoldable pub wholeState : State → ℕ → ℕ → ℕ → Bool
 unfolding powerOfTwo sensible
 wholeState st words keyBytes listBytes =
     lengthsEqual st words keyBytes listBytes
     && (wordsTaken words && (tableFits st words && (sensible (st .«key_arena») keyBytes && sensible (st .«list_arena») listBytes)))
 
--- the first bucket of the standing table
+-- RULES M3. The first bucket of the standing table.
 abbrev pub firstOf : State → ℕ
 firstOf st = firstBucket (st .back) (lentBuckets (st .words)) (st .buckets)

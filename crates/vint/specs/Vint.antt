@@ -1,5 +1,6 @@
--- Document 01, "Hash and vint": a vint is seven bits a byte, low group first, the top bit (128) set on the last byte only.
--- What is taken from bytes and what that answers are two definitions: a rule on which vints are accepted changes the second alone.
+-- RULES K. Document 01, "Hash and vint": a vint is seven bits a byte, low group first, the top bit (128) set on the
+-- last byte only. What is taken from bytes and what that answers are two definitions: a rule on which vints are
+-- accepted changes the second alone.
 use Prim.Native.Nat.{ℕ, zero, suc, _+_, _-_, _*_, _/_, _%_, _^_, _≤_, _<_}
 use mathlib.Core.Path.{_≡_, refl}
 use mathlib.Core.Bool.{cond}
@@ -11,26 +12,26 @@ use Rattle.vint.specs.declared.Vint.{Vint}
 use Rattle.vint.specs.declared.Unvint.{Unvint}
 use Rattle.vint.specs.declared.Unvint.the-variants.{Number, Refused}
 
--- bytes of the longest vint
+-- RULES K2. Bytes of the longest vint.
 abbrev pub vintLimit : ℕ
 vintLimit = 5
 
 -- ---- the writer
 
--- the groups of n, low group first, the top bit on the last byte only; at most w bytes
+-- RULES K2. The groups of n, low group first, the top bit on the last byte only; at most w bytes.
 unfoldable pub vintBytes : ℕ → ℕ → List ℕ
 vintBytes zero n = []
 vintBytes (suc w) n = cond (ltb n 128) ((n + 128) ∷ []) (n % 128 ∷ vintBytes w (n / 128))
 
--- the fewest bytes, 1 to 5
+-- RULES K2. The fewest bytes, 1 to 5.
 abbrev pub writeVint : ℕ → List ℕ
 writeVint n = vintBytes vintLimit n
 
--- the same by value: the bytes, zeros after them, and how many they are
+-- RULES K2. The same by value: the bytes, zeros after them, and how many they are.
 abbrev pub vintOf : ℕ → Vint
 vintOf n = record { bytes = writeVint n ++ replicate (vintLimit - length (writeVint n)) 0; count = length (writeVint n) }
 
--- the top bit is set on the last byte only
+-- RULES K1. The top bit is set on the last byte only.
 abbrev pub TopOnLast : List ℕ → Type 0
 TopOnLast [] = ⊥
 TopOnLast (b ∷ []) = 128 ≤ b
@@ -38,27 +39,28 @@ TopOnLast (b ∷ c ∷ bs) = (b < 128) × TopOnLast (c ∷ bs)
 
 -- ---- the reader
 
--- what bytes begin with: a vint, its groups' sum and the bytes taken; or no byte with the top bit
+-- RULES K3. What bytes begin with: a vint, its groups' sum and the bytes taken; or no byte with the top bit.
 pub data Taken : Type 0 where
   ended : ℕ → ℕ → Taken
   unended : Taken
 
--- a group in front
+-- RULES K3. A group in front.
 abbrev pub grouped : ℕ → Taken → Taken
 grouped b (ended v k) = ended (b + 128 * v) (suc k)
 grouped b unended = unended
 
--- up to w bytes, to the first with the top bit set
+-- RULES K3. Up to w bytes, to the first with the top bit set.
 unfoldable pub takeVint : ℕ → List ℕ → Taken
 takeVint zero bs = unended
 takeVint (suc w) [] = unended
 takeVint (suc w) (b ∷ bs) = cond (leb 128 b) (ended (b - 128) 1) (grouped b (takeVint w bs))
 
--- the sum modulo 2^32 and the bytes taken; without an end, refusal 11
+-- RULES K4. The sum modulo 2^32 and the bytes taken; without an end, refusal 11.
 abbrev pub answerOf : Taken → Unvint
 answerOf (ended v k) = Number (v % 2 ^ 32) k
 answerOf unended = Refused 11
 
+-- RULES K4. Of at most five bytes.
 abbrev pub readVint : List ℕ → Unvint
 readVint bs = answerOf (takeVint vintLimit bs)
 
