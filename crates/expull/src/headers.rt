@@ -12,7 +12,7 @@ pub fn fresh_header() -> Header
     ensures { λ r. ⌜ r ≡ fresh ⌝ }
 {
     Header {
-        number: crate::FIRST_BLOCK_NUM,
+        number: limits::FIRST_BLOCK_NUM,
         head: limits::NULL,
         tail: limits::NULL,
         remaining: 0,
@@ -23,7 +23,7 @@ pub fn fresh_header() -> Header
 pub fn get_block_size(number: u32) -> u32
     ensures { λ r. ⌜ (r ≡ blockSize number) × ((0 < r) × (r ≤ 32768)) ⌝ }
 {
-    let exp = crate::least(number as usize, crate::SIZE_TOP);
+    let exp = crate::least(number as usize, limits::SIZE_TOP);
     1u32 << exp
 }
 
@@ -69,14 +69,14 @@ pub fn is_sound_header(h: Header, ends: u32) -> bool
     ensures { λ r. ⌜ r ≡ soundHeader h ends ⌝ }
 {
     let size = get_block_size(h.number);
-    if h.number == crate::FIRST_BLOCK_NUM {
+    if h.number == limits::FIRST_BLOCK_NUM {
         return (h.head == limits::NULL)
             & (h.tail == limits::NULL)
             & (h.remaining == 0)
             & (ends == 0);
     }
-    (crate::FIRST_BLOCK_NUM <= h.number)
-        & (h.number <= crate::NUMBER_LIMIT)
+    (limits::FIRST_BLOCK_NUM <= h.number)
+        & (h.number <= limits::NUMBER_LIMIT)
         & ((h.head != limits::NULL) & (h.remaining <= size))
         & (ends == 0)
 }
@@ -86,7 +86,7 @@ pub fn lane_length(h: Header) -> u64
     requires { ⌜ soundHeader h 0 ≡ true ⌝ }
     ensures { λ r. ⌜ r ≡ laneLength h ⌝ }
 {
-    if h.number == crate::FIRST_BLOCK_NUM {
+    if h.number == limits::FIRST_BLOCK_NUM {
         return 0;
     }
     let remaining = h.remaining as u64;

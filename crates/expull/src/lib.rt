@@ -11,30 +11,6 @@ pub mod headers; // headers.rt: a header's fields and bytes, block sizes, damage
 pub mod write; // write.rt: the dry run, and the append
 pub mod walk; // walk.rt: the walk along the blocks, reading, finding a block
 
-pub use headers::fresh_header;
-pub use headers::get_block_size;
-pub use headers::get_end_bytes;
-pub use headers::get_header;
-pub use headers::is_sound_header;
-pub use headers::lane_length;
-pub use headers::put_header;
-pub use walk::are_good_blocks;
-pub use walk::find_block;
-pub use walk::read_to_end;
-pub use write::blocks_fit;
-pub use write::extend_from_slice;
-pub use write::is_good_tail;
-
-// The block number of a list without blocks, and the largest that isn't damage.
-pub const FIRST_BLOCK_NUM: u32 = 2;
-
-pub const NUMBER_LIMIT: u32 = 140000;
-
-// Block sizes double up to this exponent; each block is followed by a link.
-pub const SIZE_TOP: usize = 15;
-
-pub const LINK: usize = 4;
-
 // A list's header: its block number, first block, next byte to write, and the bytes that remain in the last block.
 pub struct Header {
     pub number: u32,

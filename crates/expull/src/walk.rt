@@ -23,7 +23,7 @@ fn walk(lists: &[u8], arena: Arena, head: u32, n: u32) -> Walked
     let mut i = 0;
     while i < n {
         let size = headers::get_block_size(i + 3) as usize;
-        if !memory_arena::is_good_span(arena, place, size + crate::LINK) {
+        if !memory_arena::is_good_span(arena, place, size + limits::LINK) {
             return Walked::Stopped;
         }
         place = spans::get_u32(lists, place as usize + size);
@@ -48,7 +48,7 @@ pub fn read_to_end(lists: &[u8], arena: Arena, h: Header, output: &mut [u8])
     requires { ⌜ (sensible arena (length (now lists)) ≡ true) × ((soundHeader h 0 ≡ true) × ((goodBlocks arena (now lists) (h .head) (blockCount h) ≡ true) × (laneLength h ≤ length (now output)))) ⌝ }
     ensures { λ _. ⌜ now (output .exit) ≡ overwrite 0 (laneBytes (now (lists .entry)) h) (now (output .entry)) ⌝ }
 {
-    if h.number == crate::FIRST_BLOCK_NUM {
+    if h.number == limits::FIRST_BLOCK_NUM {
         return;
     }
     let last = h.number - 3;
@@ -86,7 +86,7 @@ pub fn find_block(lists: &[u8], arena: Arena, h: Header, index: usize) -> Block
     requires { ⌜ (sensible arena (length (now lists)) ≡ true) × (soundHeader h 0 ≡ true) ⌝ }
     ensures { λ r. ⌜ r ≡ blockOf arena (now (lists .entry)) h index ⌝ }
 {
-    let count = (h.number - crate::FIRST_BLOCK_NUM) as usize;
+    let count = (h.number - limits::FIRST_BLOCK_NUM) as usize;
     if count <= index {
         return Block::NoBlock;
     }
@@ -95,7 +95,7 @@ pub fn find_block(lists: &[u8], arena: Arena, h: Header, index: usize) -> Block
         return Block::BadBlock;
     };
     let size = headers::get_block_size(i + 3) as usize;
-    if !memory_arena::is_good_span(arena, place, size + crate::LINK) {
+    if !memory_arena::is_good_span(arena, place, size + limits::LINK) {
         return Block::BadBlock;
     }
     Block::BlockAt(place, block_length(h, i))

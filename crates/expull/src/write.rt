@@ -18,11 +18,11 @@ ghost use Rattle.expull.specs.Append.{writing, headWith, linked, ready, 
 pub fn is_good_tail(arena: Arena, h: Header) -> bool
     ensures { λ r. ⌜ r ≡ goodTail arena h ⌝ }
 {
-    if h.number == crate::FIRST_BLOCK_NUM {
+    if h.number == limits::FIRST_BLOCK_NUM {
         return true;
     }
     let n = h.remaining as usize;
-    memory_arena::is_good_span(arena, h.tail, n + crate::LINK)
+    memory_arena::is_good_span(arena, h.tail, n + limits::LINK)
 }
 
 // a less b, and 0 where b is the larger.
@@ -46,7 +46,8 @@ pub fn blocks_fit(arena: Arena, len: usize, h: Header, n: usize) -> bool
     while 0 < left {
         number += 1;
         let size = headers::get_block_size(number) as usize;
-        let Allocated::At(_, after) = memory_arena::find_room(state, len, size + crate::LINK) else {
+        let Allocated::At(_, after) = memory_arena::find_room(state, len, size + limits::LINK)
+        else {
             return false;
         };
         state = after;
@@ -60,7 +61,7 @@ fn put_link(lists: &mut [u8], h: Header, at: u32) -> u32
     requires { ⌜ ((h .number ≡ freshNumber → ⊥) → h .tail + linkSize ≤ length (now lists)) ⌝ }
     ensures { λ r. ⌜ (r ≡ headWith at h) × (now (lists .exit) ≡ linked at h (now (lists .entry))) ⌝ }
 {
-    if h.number == crate::FIRST_BLOCK_NUM {
+    if h.number == limits::FIRST_BLOCK_NUM {
         return at;
     }
     spans::put_u32(lists, h.tail as usize, at);
@@ -79,7 +80,7 @@ fn ensure_capacity(lists: &mut [u8], w: Extended) -> Extended
     }
     let number = h.number + 1;
     let size = headers::get_block_size(number);
-    let wide = size as usize + crate::LINK;
+    let wide = size as usize + limits::LINK;
     let Allocated::At(at, after) = memory_arena::find_room(arena, lists.len(), wide) else {
         return w;
     };

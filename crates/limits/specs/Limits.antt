@@ -56,6 +56,10 @@ sizeTop = 15
 abbrev pub linkSize : ℕ
 linkSize = 4
 
+-- RULES K2. Bytes of the longest vint.
+abbrev pub vintLimit : ℕ
+vintLimit = 5
+
 -- ---- how the numbers fit together
 
 -- RULES A9. No address of an arena is null, nor on null's page.

@@ -24,3 +24,16 @@ pub const RECORD_EXTRA: usize = 18;
 
 // The address that points nowhere.
 pub const NULL: u32 = 4294967295;
+
+// The block number of a list without blocks, and the largest that isn't damage.
+pub const FIRST_BLOCK_NUM: u32 = 2;
+
+pub const NUMBER_LIMIT: u32 = 140000;
+
+// Block sizes double up to this exponent; each block is followed by a link.
+pub const SIZE_TOP: usize = 15;
+
+pub const LINK: usize = 4;
+
+// Bytes of the longest vint.
+pub const VINT_LIMIT: usize = 5;

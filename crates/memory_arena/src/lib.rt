@@ -41,7 +41,7 @@ pub enum Touched {
 pub fn addr_new(page: u32, place: u32) -> u32
     ensures { λ r. ⌜ r ≡ addressOf pageSize page place % 2 ^ 32 ⌝ }
 {
-    (((page as u64) * 1048576 + (place as u64)) % 4294967296) as u32
+    (((page as u64) * (limits::PAGE_SIZE as u64) + (place as u64)) % 4294967296) as u32
 }
 
 pub fn page_id(addr: u32) -> usize

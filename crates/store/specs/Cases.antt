@@ -77,12 +77,24 @@ pub said-listed : (saidListed (nextOf one lent-one 0) ≡ answered aBucket (0 �
 unfolding createOf appendOf nextOf countOf
 said-listed = (refl, refl, refl, refl, refl)
 
--- 5 on a table of one bucket and no more, 6 for a record of 65 bytes, 7 for 57 bytes more
+-- a table of one bucket that has no room to grow, with lane A in it
+abbrev tight : State
+tight = freshState 0 2 64 64 1
+
+abbrev lent-tight : Lent
+lent-tight = lent (createOf 1 0 (sevens 2) 64 64 .table) (sevens 64) (sevens 64)
+
+-- 6 for a record of 46 bytes behind one of 19, in 64; 7 for blocks of 12, 20 and 36 bytes behind one of 12, in 64
 pub said-appended : (saidAppended (appendOf start lent-at-first lane-a [] .answer) ≡ answered accepted [])
     × (saidAppended (appendOf one (lent [] [] []) lane-a [] .answer) ≡ refused 2 [])
     × (saidAppended (appendOf one lent-one (sevens 65536) [] .answer) ≡ refused 3 [])
     × (saidAppended (appendOf one broken lane-a [] .answer) ≡ refused 4 [])
-    × (saidAppended (appendOf one lent-one (sevens 47) [] .answer) ≡ refused 6 [])
-    × (saidAppended (appendOf one lent-one lane-b (sevens 57) .answer) ≡ refused 7 [])
+    × (saidAppended
+    (appendOf (stateOf (appendOf tight lent-tight lane-a [] .answer)) (appendOf tight lent-tight lane-a [] .memory) lane-b [] .answer)
+    ≡ refused 5 [])
+    × (saidAppended (appendOf one lent-one (sevens 28) [] .answer) ≡ refused 6 [])
+    × (saidAppended (appendOf one lent-one (sevens 27) [] .answer) ≡ answered accepted [])
+    × (saidAppended (appendOf one lent-one lane-b (sevens 25) .answer) ≡ refused 7 [])
+    × (saidAppended (appendOf one lent-one lane-b (sevens 24) .answer) ≡ answered accepted [])
 unfolding createOf appendOf
-said-appended = (refl, refl, refl, refl, refl, refl)
+said-appended = (refl, refl, refl, refl, refl, refl, refl, refl, refl)

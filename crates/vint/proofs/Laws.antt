@@ -14,9 +14,10 @@ use borrow.Author.Tests.{ltb-true, ltb-false, lt-ltb, le-ltb, le-leb, lt-leb}
 use Rattle.numbers.specs.LittleEndian.{Bytes}
 use Rattle.numbers.proofs.Tests.{both}
 use Rattle.limits.specs.Refusals.{unvinting, permitted}
+use Rattle.limits.specs.Limits.{vintLimit}
 use Rattle.vint.specs.declared.Unvint.{Unvint}
 use Rattle.vint.specs.declared.Unvint.the-variants.{Number}
-use Rattle.vint.specs.Vint.{vintLimit, vintBytes, writeVint, TopOnLast, Taken, ended, unended, grouped, takeVint, answerOf, readVint, saidUnvint}
+use Rattle.vint.specs.Vint.{vintBytes, writeVint, TopOnLast, Taken, ended, unended, grouped, takeVint, answerOf, readVint, saidUnvint}
 
 -- a number is below another or not
 below-or : (n k : ℕ) → (n < k) ⊎ (k ≤ n)

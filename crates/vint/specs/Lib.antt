@@ -1,1 +1,2 @@
 pub mod Vint
+pub mod Promises

@@ -7,14 +7,11 @@ use mathlib.Core.Bool.{cond}
 use mathlib.Core.List.{List, [], _∷_, _++_}
 use lib.Dec.{leb, ltb}
 use lib.ListN.{length, replicate}
+use Rattle.limits.specs.Limits.{vintLimit}
 use Rattle.limits.specs.Refusals.{Said, answered, refused, aNumber, one-outcome}
 use Rattle.vint.specs.declared.Vint.{Vint}
 use Rattle.vint.specs.declared.Unvint.{Unvint}
 use Rattle.vint.specs.declared.Unvint.the-variants.{Number, Refused}
-
--- RULES K2. Bytes of the longest vint.
-abbrev pub vintLimit : ℕ
-vintLimit = 5
 
 -- ---- the writer
 

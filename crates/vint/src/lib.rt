@@ -12,7 +12,7 @@ ghost use Rattle.vint.specs.Vint.{vintOf, ended, answerOf, readVint, sai
 
 // A vint by value: its bytes, zeros after them, and how many they are.
 pub struct Vint {
-    pub bytes: [u8; 5],
+    pub bytes: [u8; limits::VINT_LIMIT],
     pub count: usize,
 }
 
@@ -41,7 +41,7 @@ fn last(n: u32) -> u8
 pub fn serialize_vint_u32(n: u32) -> Vint
     ensures { λ r. ⌜ r ≡ vintOf n ⌝ }
 {
-    let mut bytes = [0u8; 5];
+    let mut bytes = [0u8; limits::VINT_LIMIT];
     let mut rest = n;
     let mut at: usize = 0;
     while 128 <= rest {
@@ -77,7 +77,7 @@ pub fn read_u32_vint(bytes: &[u8]) -> Unvint
     let mut sum: u64 = 0;
     let mut unit: u64 = 1;
     let mut at: usize = 0;
-    while (at < 5) & (at < bytes.len()) {
+    while (at < limits::VINT_LIMIT) & (at < bytes.len()) {
         let b = bytes[at];
         if 128 <= b {
             return answered(plus(sum, unit, b - 128), at + 1);

@@ -6,7 +6,8 @@ use native.Mathlib.Numerals.{add-one}
 use native.Mathlib.Omega.{arith}
 use lib.ListN.{length}
 use borrow.Author.Needs.{needs}
-use Rattle.vint.specs.Vint.{vintLimit, ended, unended, answerOf}
+use Rattle.limits.specs.Limits.{vintLimit}
+use Rattle.vint.specs.Vint.{ended, unended, answerOf}
 use Rattle.vint.proofs.Laws.{goes-on, stops, Reading, reading-starts, unit-most, reading-on, reading-last, reading-stops, answers}
 use Rattle.vint.proofs.read_u32_vint.Statement.{statement}
 use Rattle.vint.proofs.read_u32_vint.Tie as tie

@@ -4,7 +4,7 @@ use mathlib.Core.Path.{refl, _∙_}
 use native.Mathlib.Numerals.{add-one}
 use native.Mathlib.Omega.{arith}
 use borrow.Author.Needs.{needs}
-use Rattle.vint.specs.Vint.{vintLimit}
+use Rattle.limits.specs.Limits.{vintLimit}
 use Rattle.vint.proofs.Laws.{Writing, writing-on, written, written-length}
 use Rattle.vint.proofs.serialize_vint_u32.Statement.{statement}
 use Rattle.vint.proofs.serialize_vint_u32.Tie as tie
