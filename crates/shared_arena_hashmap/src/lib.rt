@@ -116,7 +116,7 @@ fn see(table: &[u32], keys: &[u8], arena: Arena, bucket: usize, hash: u32, name:
     Seen::Other
 }
 
-pub fn next_bucket(l: usize, i: usize) -> usize
+fn next_bucket(l: usize, i: usize) -> usize
     requires { ⌜ i < l ⌝ }
     ensures { λ r. ⌜ (r ≡ nextBucket l i) × (r < l) ⌝ }
 {

@@ -39,15 +39,3 @@ pub fn is_whole_state(st: State, words: usize, key_bytes: usize, list_bytes: usi
     let e = memory_arena::is_sensible(lists, list_bytes);
     a & (b & (c & (d & e)))
 }
-
-// The first bucket of the standing table.
-pub fn first_bucket(st: State) -> usize
-    requires { ⌜ st .buckets ≤ st .words / 2 ⌝ }
-    ensures { λ r. ⌜ r ≡ firstOf st ⌝ }
-{
-    let back = st.back;
-    if back {
-        return st.words / 2 - st.buckets;
-    }
-    0
-}

@@ -11,6 +11,14 @@ pub mod write;
 
 use expull::Header;
 use memory_arena::Arena;
+use shared_arena_hashmap::Walk;
+ghost use mathlib.Core.Path.{_≡_};
+ghost use mathlib.Core.Bool.{true};
+ghost use Prim.Native.Nat.{_+_, _≤_, _/_};
+ghost use lib.ListN.{length};
+ghost use Rattle.shared_arena_hashmap.specs.Probe.{valuePlace};
+ghost use Rattle.store.specs.State.{firstOf};
+ghost use Rattle.store.specs.Look.{lent, checked, walkOf, headOf};
 
 // What the store remembers between calls (document 01, "Numbers that bound the store").
 pub struct State {
@@ -78,4 +86,51 @@ pub enum Listed {
 pub enum Counted {
     Keys(usize),
     Unknown(u32),
+}
+
+// ---- what the calls share
+
+// The first bucket of the standing table.
+fn first_bucket(st: State) -> usize
+    requires { ⌜ st .buckets ≤ st .words / 2 ⌝ }
+    ensures { λ r. ⌜ r ≡ firstOf st ⌝ }
+{
+    let back = st.back;
+    if back {
+        return st.words / 2 - st.buckets;
+    }
+    0
+}
+
+// The walk of a name's lookup, in a store whose state is whole.
+fn walk(st: State, table: &[u32], keys: &[u8], lists: &[u8], name: &[u8]) -> Walk
+    requires { ⌜ checked st (lent (now table) (now keys) (now lists)) ≡ true ⌝ }
+    ensures { λ r. ⌜ r ≡ walkOf st (lent (now (table .entry)) (now (keys .entry)) (now (lists .entry))) (now (name .entry)) ⌝ }
+{
+    let arena = st.key_arena;
+    let first = first_bucket(st);
+    let hash = murmurhash2::murmurhash2(name, st.seed);
+    shared_arena_hashmap::find(table, keys, arena, first, st.buckets, hash, name)
+}
+
+// Where a record's value starts.
+fn value_place(keys: &[u8], at: u32) -> usize
+    requires { ⌜ at + 2 ≤ length (now keys) ⌝ }
+    ensures { λ r. ⌜ r ≡ valuePlace (now (keys .entry)) at ⌝ }
+{
+    (at as usize) + 2 + shared_arena_hashmap::key_length(keys, at)
+}
+
+// The header of the record at a place, or damage.
+fn get_head(keys: &[u8], at: u32) -> Head
+    requires { ⌜ (at + 2 ≤ length (now keys)) × (valuePlace (now keys) at + 16 ≤ length (now keys)) ⌝ }
+    ensures { λ r. ⌜ r ≡ headOf (now (keys .entry)) at ⌝ }
+{
+    let place = value_place(keys, at);
+    let h = expull::headers::get_header(keys, place);
+    let ends = expull::headers::get_end_bytes(keys, place);
+    if expull::headers::is_sound_header(h, ends) {
+        return Head::Sound(h);
+    }
+    Head::Broken
 }

@@ -23,17 +23,6 @@ ghost use Rattle.store.specs.Said.{saidLookup, saidAnswer, saidListed, s
 ghost use Rattle.store.specs.State.{wholeState};
 ghost use Rattle.store.specs.Look.{lent, checked, walkOf, onMet, lookupOf, notFound, headOf, lengthAt, lengthOf, reading, readAt, readOf, onBlock, blockAt, findBlockOf, showOf, onNext, nextOf, countOf};
 
-// The walk of a name's lookup, in a store whose state is whole.
-pub fn walk(st: State, table: &[u32], keys: &[u8], lists: &[u8], name: &[u8]) -> Walk
-    requires { ⌜ checked st (lent (now table) (now keys) (now lists)) ≡ true ⌝ }
-    ensures { λ r. ⌜ r ≡ walkOf st (lent (now (table .entry)) (now (keys .entry)) (now (lists .entry))) (now (name .entry)) ⌝ }
-{
-    let arena = st.key_arena;
-    let first = crate::check::first_bucket(st);
-    let hash = murmurhash2::murmurhash2(name, st.seed);
-    shared_arena_hashmap::find(table, keys, arena, first, st.buckets, hash, name)
-}
-
 fn on_met(met: Met) -> Lookup
     ensures { λ r. ⌜ r ≡ onMet met ⌝ }
 {
@@ -56,7 +45,7 @@ pub fn lookup(st: State, table: &[u32], keys: &[u8], lists: &[u8], name: &[u8]) 
     if limits::NAME_LIMIT < name.len() {
         return Lookup::Failed(3);
     }
-    let w = walk(st, table, keys, lists, name);
+    let w = crate::walk(st, table, keys, lists, name);
     let met = w.met;
     on_met(met)
 }
@@ -72,34 +61,12 @@ fn not_found(found: Lookup) -> Answer
     }
 }
 
-// Where a record's value starts.
-pub fn value_place(keys: &[u8], at: u32) -> usize
-    requires { ⌜ at + 2 ≤ length (now keys) ⌝ }
-    ensures { λ r. ⌜ r ≡ valuePlace (now (keys .entry)) at ⌝ }
-{
-    (at as usize) + 2 + shared_arena_hashmap::key_length(keys, at)
-}
-
-// The header of the record at a place, or damage.
-pub fn get_head(keys: &[u8], at: u32) -> Head
-    requires { ⌜ (at + 2 ≤ length (now keys)) × (valuePlace (now keys) at + 16 ≤ length (now keys)) ⌝ }
-    ensures { λ r. ⌜ r ≡ headOf (now (keys .entry)) at ⌝ }
-{
-    let place = value_place(keys, at);
-    let h = expull::headers::get_header(keys, place);
-    let ends = expull::headers::get_end_bytes(keys, place);
-    if expull::headers::is_sound_header(h, ends) {
-        return Head::Sound(h);
-    }
-    Head::Broken
-}
-
 // A standing lane's length.
 fn length_at(keys: &[u8], at: u32) -> Answer
     requires { ⌜ (at + 2 ≤ length (now keys)) × (valuePlace (now keys) at + 16 ≤ length (now keys)) ⌝ }
     ensures { λ r. ⌜ r ≡ lengthAt (now (keys .entry)) at ⌝ }
 {
-    let head = get_head(keys, at);
+    let head = crate::get_head(keys, at);
     let Head::Sound(h) = head else {
         return Answer::Refused(4, 0);
     };
@@ -131,7 +98,7 @@ fn read_at(
     ensures { λ r. ⌜ reading r (now (output .exit)) ≡ readAt st (lent (now (table .entry)) (now (keys .entry)) (now (lists .entry))) at (now (output .entry)) ⌝ }
 {
     let arena = st.list_arena;
-    let head = get_head(keys, at);
+    let head = crate::get_head(keys, at);
     let Head::Sound(h) = head else {
         return Answer::Refused(4, 0);
     };
@@ -180,7 +147,7 @@ fn block_at(st: State, table: &[u32], keys: &[u8], lists: &[u8], at: u32, index:
     ensures { λ r. ⌜ r ≡ blockAt st (lent (now (table .entry)) (now (keys .entry)) (now (lists .entry))) index at ⌝ }
 {
     let arena = st.list_arena;
-    let head = get_head(keys, at);
+    let head = crate::get_head(keys, at);
     let Head::Sound(h) = head else {
         return Answer::Refused(4, 0);
     };
@@ -257,7 +224,7 @@ pub fn next_occupied(st: State, table: &[u32], keys: &[u8], lists: &[u8], index:
     if buckets <= index {
         return Listed::NoMore;
     }
-    let first = crate::check::first_bucket(st);
+    let first = crate::first_bucket(st);
     let next = shared_arena_hashmap::next_occupied(table, first, buckets - index, index);
     on_next(keys, arena, next)
 }

@@ -84,9 +84,9 @@ fn grow_table(st: State, table: &mut [u32]) -> State
     if !has_room_to_grow(st) {
         return st;
     }
-    let old = crate::check::first_bucket(st);
+    let old = crate::first_bucket(st);
     let next = grown_state(st);
-    let first = crate::check::first_bucket(next);
+    let first = crate::first_bucket(next);
     shared_arena_hashmap::grow::resize(table, st.buckets, old, first, next.buckets);
     next
 }
@@ -129,7 +129,7 @@ fn write_standing(
 {
     let arena = st.list_arena;
     let list = expull::write::extend_from_slice(lists, arena, h, bytes);
-    let place = crate::look::value_place(keys, at);
+    let place = crate::value_place(keys, at);
     expull::headers::put_header(keys, place, list.header);
     let grown = grow_table(st, table);
     Appended::Accepted(moved_state(grown, st.keys, st.key_arena, list.arena))
@@ -148,7 +148,7 @@ fn append_standing(
     ensures { λ r. ⌜ out r (lent (now (table .exit)) (now (keys .exit)) (now (lists .exit))) ≡ appendStanding st (lent (now (table .entry)) (now (keys .entry)) (now (lists .entry))) at (now (bytes .entry)) ⌝ }
 {
     let arena = st.list_arena;
-    let head = crate::look::get_head(keys, at);
+    let head = crate::get_head(keys, at);
     let Head::Sound(h) = head else {
         return Appended::Declined(st, 4);
     };
@@ -190,7 +190,7 @@ fn enter_new(st: State, grown: State, table: &mut [u32], name: &[u8], at: u32)
     requires { ⌜ (0 < grown .buckets) × ((grown .buckets ≤ grown .words / 2) × (grown .words ≡ length (now table))) ⌝ }
     ensures { λ _. ⌜ now (table .exit) ≡ entered (firstOf grown) (grown .buckets) at (murmurHash2 (st .seed) (now (name .entry))) (now (table .entry)) ⌝ }
 {
-    let first = crate::check::first_bucket(grown);
+    let first = crate::first_bucket(grown);
     let hash = murmurhash2::murmurhash2(name, st.seed);
     shared_arena_hashmap::grow::enter(table, first, grown.buckets, at, hash);
 }
@@ -259,7 +259,7 @@ pub fn append(
     if limits::NAME_LIMIT < name.len() {
         return Appended::Declined(st, 3);
     }
-    let w = crate::look::walk(st, table, keys, lists, name);
+    let w = crate::walk(st, table, keys, lists, name);
     let met = w.met;
     match met {
         Met::Damaged => Appended::Declined(st, 4),

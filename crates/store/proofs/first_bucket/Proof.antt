@@ -1,7 +1,7 @@
 -- The two ends. Assumes nothing.
 use borrow.Author.Needs.{needs}
-use Rattle.store.proofs.check.first_bucket.Statement.{statement}
-use Rattle.store.proofs.check.first_bucket.Tie as tie
+use Rattle.store.proofs.first_bucket.Statement.{statement}
+use Rattle.store.proofs.first_bucket.Tie as tie
 
 sub-result : tie.Need-sub-result
 sub-result c = search needs

@@ -3,8 +3,8 @@ use Prim.Native.Nat.{ℕ, _+_}
 use mathlib.Core.Path.{ap}
 use borrow.Author.Needs.{needs}
 use Rattle.shared_arena_hashmap.specs.Probe.{valuePlace}
-use Rattle.store.proofs.look.value_place.Statement.{statement}
-use Rattle.store.proofs.look.value_place.Tie as tie
+use Rattle.store.proofs.value_place.Statement.{statement}
+use Rattle.store.proofs.value_place.Tie as tie
 
 add-result : tie.Need-add-result
 add-result c = search needs

@@ -8,8 +8,8 @@ use Rattle.store.proofs.Whole.{Whole, whole-facts, first-in}
 use Rattle.store.specs.Look.{walkOf}
 use Rattle.shared_arena_hashmap.proofs.Laws.{power-facts}
 use Rattle.shared_arena_hashmap.specs.Probe.{lookup}
-use Rattle.store.proofs.look.walk.Statement.{statement}
-use Rattle.store.proofs.look.walk.Tie as tie
+use Rattle.store.proofs.walk.Statement.{statement}
+use Rattle.store.proofs.walk.Tie as tie
 
 -- the whole-state check, clause by clause
 whole : (c : tie.Start) → Whole (c .args .st) (length (c .args .table .now)) (length (c .args .keys .now)) (length (c .args .lists .now))

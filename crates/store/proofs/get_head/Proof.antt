@@ -8,8 +8,8 @@ use Rattle.store.specs.Look.{headerSound}
 use Rattle.store.specs.declared.Head.the-variants.{Sound}
 use Rattle.expull.specs.Header.{headerAt, endBytesAt, soundHeader}
 use Rattle.shared_arena_hashmap.specs.Probe.{valuePlace}
-use Rattle.store.proofs.look.get_head.Statement.{statement}
-use Rattle.store.proofs.look.get_head.Tie as tie
+use Rattle.store.proofs.get_head.Statement.{statement}
+use Rattle.store.proofs.get_head.Tie as tie
 
 value-place-requires : tie.Need-value-place-requires
 value-place-requires c κs = search needs
