@@ -426,18 +426,25 @@ def plain(h):
     h.finish()
 
 
+# A few long names, and names near them, can fill the key page before all lanes stand; then no name is entered any more. While one still
+# fits, at least one try in 250 enters one, so that after so many in vain there is none.
+MOST_IDLE = 10000
+
+
 def growing(h):
     """many lanes, the table grows several times"""
     rng = h.rng
     h.create(rng.choice([1, 1, 1, 2, 3, 4, 6, 8, 20]))
     many = rng.randint(300, 1500) if h.whole and rng.random() < 0.1 else rng.randint(9, 100 if h.whole else 40)
-    while len(h.lanes) < many:
+    idle = 0
+    while len(h.lanes) < many and idle < MOST_IDLE:
         standing = list(h.lanes)
         name = b"n%d" % rng.randrange(10 ** 6) if rng.random() < 0.6 else some_name(rng, standing)
         if standing and h.saturated() and rng.random() < 0.5:
             name = rng.choice(standing)
         if h.append(name, rng.choice([0, 1, 3, 8, 9, 20])) and rng.random() < 0.3:
             h.ask_something(h.lanes[name])
+        idle = 0 if len(h.lanes) > len(standing) else idle + 1
     h.finish()
 
 
