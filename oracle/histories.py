@@ -426,8 +426,8 @@ def plain(h):
     h.finish()
 
 
-# A few long names, and names near them, can fill the key page before all lanes stand; then no name is entered any more. While one still
-# fits, at least one try in 250 enters one, so that after so many in vain there is none.
+# A few long names, and names near them, can fill the key page before all lanes stand; then no name is entered any more.
+# While one still fits, at least one try in 250 enters one, so that after so many in vain there is none.
 MOST_IDLE = 10000
 
 
