@@ -1,7 +1,7 @@
 -- RULES A. Document 01, "Numbers that bound the store", "Pages and addresses", "Buckets", "Lists": each number once,
 -- by name. A rule that holds for every page size takes the size as an argument; these say which size, and how many
 -- pages, there are today.
-use Prim.Native.Nat.{ℕ, _+_, _-_, _*_, _^_, _≤_, _<_, min}
+use Prim.Native.Nat.{ℕ, _+_, _-_, _*_, _^_, _≤_, _<_}
 use lib.Dec.{lit≤, lit<}
 
 -- RULES A2. A page's bytes.

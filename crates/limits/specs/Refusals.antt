@@ -1,7 +1,7 @@
 -- Document 01, "Refusal numbers": what an answer says in that paper's terms, and which numbers each call may give. Each enum that a call
 -- answers with has a definition that gives its `Said` case by case, and the call's contract uses it.
 use Prim.Native.Nat.{ℕ}
-use mathlib.Core.Path.{_≡_, refl, sym, _∙_}
+use mathlib.Core.Path.{_≡_, sym, _∙_}
 use mathlib.Core.Bool.{Bool, true, false, _||_}
 use mathlib.Core.List.{List, [], _∷_}
 use lib.Dec.{eqb}

@@ -1,21 +1,20 @@
 -- What follows from the rules of pages and addresses, over the page size s. Assumes nothing.
-use Prim.Native.Nat.{ℕ, zero, suc, _+_, _-_, _*_, _/_, _%_, _^_, _≤_, _<_, min}
-use mathlib.Core.Path.{_≡_, refl, sym, ap, _∙_, subst}
+use Prim.Native.Nat.{ℕ, suc, _+_, _-_, _*_, _/_, _≤_, _<_, min}
+use mathlib.Core.Path.{_≡_, refl, ap}
 use mathlib.Core.Bool.{Bool, true, false, cond, _&&_}
 use mathlib.Core.List.{List}
-use native.Mathlib.Nat.{div-add-mod', mul-le-mul-right, suc-mul, add-zero}
+use native.Mathlib.Nat.{div-add-mod', mul-le-mul-right, suc-mul}
 use native.Mathlib.Omega.{arith}
 use lib.Arith.{digits-div, digits-mod}
 use lib.Dec.{leb, ltb, eqb}
 use lib.ListN.{length}
-use borrow.Author.Tests.{le-leb, lt-leb, lt-ltb, le-ltb, leb-true, leb-false, ltb-true, ltb-false, eqb-true, eqb-false, eq-eqb, ne-eqb}
+use borrow.Author.Tests.{le-leb, lt-leb, lt-ltb, leb-true, ltb-true, ltb-false, eqb-true, eqb-false, eq-eqb, ne-eqb}
 use Rattle.limits.specs.Limits.{pageSize, arenaLimit}
 use Rattle.limits.specs.Refusals.{Asked, permitted}
 use Rattle.spans.specs.Span.{readSpan, overwrite}
 use Rattle.numbers.proofs.Tests.{both, both-true, left-false, right-false, same-test}
 use Rattle.memory_arena.specs.Address.{addressOf, pageOf, placeOf}
 use Rattle.memory_arena.specs.declared.Arena.{Arena}
-use Rattle.memory_arena.specs.declared.Allocated.{Allocated}
 use Rattle.memory_arena.specs.declared.Allocated.the-variants.{At, NoRoom}
 use Rattle.memory_arena.specs.declared.Touched.the-variants.{Done, Declined}
 use Rattle.memory_arena.specs.Pages.{capacityOf, lendable, standing, usedOn, goodSpan, roomFor}

@@ -1,11 +1,11 @@
 -- RULES G. The calls on a bare arena: what each answers and leaves, for any state and any lent length. Refusals by
 -- document 01's numbers, the lowest first: 9 an allocation of 0 or over a page's bytes; 10 a span that isn't good, a
 -- lent length that creation refuses, or a state whose page or used count exceeds it.
-use Prim.Native.Nat.{ℕ, _≤_}
+use Prim.Native.Nat.{ℕ}
 use mathlib.Core.Path.{_≡_, refl}
 use mathlib.Core.Bool.{Bool, cond, _&&_, _||_}
 use mathlib.Core.List.{List, [], _∷_}
-use lib.Dec.{leb, ltb, eqb}
+use lib.Dec.{ltb, eqb}
 use lib.ListN.{length, replicate}
 use Rattle.limits.specs.Limits.{pageSize, arenaLimit}
 use Rattle.limits.specs.Refusals.{Said, answered, refused, done, anAddress, noRoom, one-outcome}

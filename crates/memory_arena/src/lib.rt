@@ -7,13 +7,11 @@
 ghost use mathlib.Core.Path.{_≡_};
 ghost use mathlib.Core.Bool.{true};
 ghost use Prim.Native.Nat.{_+_, _≤_, _<_, _%_, _^_};
-ghost use lib.ListN.{length};
-ghost use Rattle.limits.specs.Limits.{pageSize, arenaLimit};
+ghost use Rattle.limits.specs.Limits.{pageSize};
 ghost use Rattle.limits.specs.Refusals.{allocating, touching, permitted};
 ghost use Rattle.numbers.specs.Wrap.{wrapAdd};
-ghost use Rattle.spans.specs.Span.{readSpan, overwrite};
 ghost use Rattle.memory_arena.specs.Address.{addressOf, pageOf, placeOf};
-ghost use Rattle.memory_arena.specs.Pages.{capacityOf, standing, goodSpan, roomFor};
+ghost use Rattle.memory_arena.specs.Pages.{capacityOf, goodSpan, roomFor};
 ghost use Rattle.memory_arena.specs.Calls.{sensible, reachable, allocateOf, saidAllocated, readOf, writeOf, sliceOf, out, saidTouched};
 
 // An arena's state beside its lent pages: the current page, and the bytes used there.

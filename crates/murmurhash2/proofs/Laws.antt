@@ -1,9 +1,9 @@
 -- Laws of specs/Murmur.antt: what one to three bytes give, and a turn of four bytes. Assumes nothing.
-use Prim.Native.Nat.{ℕ, zero, suc, _+_, _*_, _≤_, _<_}
+use Prim.Native.Nat.{ℕ, _+_, _≤_}
 use mathlib.Core.Path.{_≡_, refl, sym, ap, _∙_}
 use mathlib.Core.List.{List, [], _∷_, _++_}
 use native.Mathlib.Omega.{arith}
-use lib.ListN.{length, take, drop, getD, take-append-drop}
+use lib.ListN.{length, drop, getD, take-append-drop}
 use lib.Seq.{drop-drop}
 use lib.Bits.{bitXor}
 use Rattle.numbers.specs.Wrap.{wrapMul}

@@ -7,7 +7,7 @@ ghost use mathlib.Core.List.{[], _∷_};
 ghost use Prim.Native.Nat.{_<_};
 ghost use lib.ListN.{length};
 ghost use Rattle.numbers.specs.LittleEndian.{leNumber};
-ghost use Rattle.murmurhash2.specs.Murmur.{left, mixed, turned, taken, ended, murmurHash2};
+ghost use Rattle.murmurhash2.specs.Murmur.{mixed, turned, taken, ended, murmurHash2};
 
 const M: u32 = 0x5BD1E995;
 

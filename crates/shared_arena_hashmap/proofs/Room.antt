@@ -1,7 +1,7 @@
 -- Room in a table, by counting empty buckets: a probe finds an empty bucket wherever there is one, and a table that has grown has one left,
 -- whatever the words held. Assumes nothing.
 use Prim.Native.Nat.{ℕ, zero, suc, _+_, _*_, _≤_, _<_}
-use mathlib.Core.Path.{_≡_, refl, sym, ap, _∙_, subst}
+use mathlib.Core.Path.{_≡_, refl, sym, ap, _∙_}
 use mathlib.Core.Logic.{_⊎_, inl, inr, ⊎-elim, _≢_}
 use mathlib.Core.Bool.{Bool, true, false, cond, false≢true}
 use mathlib.Core.List.{List}
@@ -21,7 +21,6 @@ use Rattle.shared_arena_hashmap.specs.declared.Met.the-variants.{Empty}
 use Rattle.shared_arena_hashmap.specs.declared.Walk.{Walk}
 use Rattle.shared_arena_hashmap.specs.Probe.{goodRecord, keyAt, seenRecord, seenAt, nextBucket, startOf, onSeen, probe, lookup}
 use Rattle.shared_arena_hashmap.specs.Grow.{freeFrom, freeOf, entered, reentered, allReentered, grown}
-use Rattle.shared_arena_hashmap.proofs.Laws.{length-cleared}
 use Rattle.shared_arena_hashmap.proofs.Words.{bucket-other, bucket-address, bucket-hash, clear-address}
 
 -- how many of the n buckets from b on are empty

@@ -1,7 +1,7 @@
 -- RULES M. Document 01, "Buckets": bucket b is words 2b and 2b + 1 of the lent table, record address and hash; the
 -- standing table has L buckets from bucket `first` on, at the front or at the back of the T lent ones.
 use Prim.Native.Nat.{ℕ, zero, suc, _+_, _-_, _*_}
-use mathlib.Core.Bool.{Bool, cond, not}
+use mathlib.Core.Bool.{Bool, cond}
 use mathlib.Core.List.{List, [], _∷_}
 use lib.Dec.{leb, eqb}
 use lib.ListN.{getD}

@@ -1,7 +1,7 @@
 -- RULES Q. Document 01, "Buckets": entering a record in the first empty bucket of its probe, and growth: the new
 -- table at the other end, all empty, and the old buckets re-entered in bucket order by their stored hashes.
 use Prim.Native.Nat.{ℕ, zero, suc, _+_}
-use mathlib.Core.Bool.{Bool, cond}
+use mathlib.Core.Bool.{cond}
 use mathlib.Core.List.{List}
 use lib.Dec.{eqb}
 use Rattle.shared_arena_hashmap.specs.Buckets.{addressAt, hashAt, emptyAt, withBucket, cleared}

@@ -4,8 +4,7 @@
 use Prim.Native.Nat.{ℕ, zero, suc, _+_, _%_}
 use mathlib.Core.Bool.{Bool, cond, _&&_}
 use mathlib.Core.List.{List}
-use lib.Dec.{leb, ltb, eqb}
-use lib.ListN.{length}
+use lib.Dec.{eqb}
 use Rattle.limits.specs.Limits.{pageSize, recordExtra}
 use Rattle.numbers.specs.LittleEndian.{leNumber}
 use Rattle.spans.specs.Span.{readSpan}

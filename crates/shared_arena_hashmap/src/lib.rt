@@ -12,7 +12,6 @@ ghost use Prim.Native.Nat.{_+_, _*_, _≤_, _<_, _^_};
 ghost use lib.ListN.{length};
 ghost use Rattle.memory_arena.specs.Calls.{sensible};
 ghost use Rattle.shared_arena_hashmap.specs.Power.{roundedDown, powerOfTwo};
-ghost use Rattle.shared_arena_hashmap.specs.Buckets.{cleared};
 ghost use Rattle.shared_arena_hashmap.specs.Probe.{keyLength, goodRecord, seenRecord, seenAt, nextBucket, lookup, occupiedFrom};
 
 // What a bucket is to a lookup: empty, the name's own with its record's place, a broken record, or another's.

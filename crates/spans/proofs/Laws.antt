@@ -2,13 +2,13 @@
 -- lent parts are such writes. Assumes nothing.
 use Prim.Native.Nat.{ℕ, zero, suc, _+_, _-_, _^_, _≤_, _<_}
 use mathlib.Core.Path.{_≡_, refl, sym, ap, _∙_}
-use mathlib.Core.Logic.{_⊎_, inl, inr, ⊎-elim}
-use mathlib.Core.List.{List, [], _∷_, _++_, append-assoc, append-nil}
-use native.Mathlib.Nat.{suc-add, zero-add, add-zero, add-suc}
+use mathlib.Core.Logic.{⊎-elim}
+use mathlib.Core.List.{List, [], _∷_, _++_, append-assoc}
+use native.Mathlib.Nat.{suc-add, zero-add}
 use native.Mathlib.Numerals.{towards-suc}
 use native.Mathlib.Omega.{arith}
-use lib.ListN.{length, take, drop, getD, set, length-append, length-take, length-drop, take-append-drop, drop-of-length-le}
-use lib.Seq.{take-nil, drop-nil, take-add, drop-drop, take-length, take-all, drop-length, drop-cons, take-suc, take-take, getD-take, getD-drop, length-take-le, sets, sets-eq}
+use lib.ListN.{length, take, drop, getD, set, length-take, length-drop}
+use lib.Seq.{take-nil, drop-nil, take-add, drop-drop, drop-cons, take-suc, take-take, getD-take, getD-drop, length-take-le, sets, sets-eq}
 use borrow.Rule.Slice.PartMut.{putMid, post-is}
 use Rattle.numbers.specs.LittleEndian.{leNumber, leBytes}
 use Rattle.numbers.proofs.Laws.{length-le, le-round}
@@ -172,11 +172,6 @@ pub part-back : (m : List ℕ) (a e : ℕ) (ys : List ℕ) → a ≤ e → e ≤
 part-back m a e ys h k l =
     let q : a + length ys ≡ e = omega arith in
     rw (post-is a e m h, overwrite-parts a ys m (omega arith), q)
-
--- a part that is read
-pub part-read : (m : List ℕ) (a e : ℕ) → take (e - a) (drop a m) ≡ readSpan a (e - a) m
-unfolding readSpan
-part-read m a e = refl
 
 -- one store, and a store on from the end of a write
 pub store-one : (p b : ℕ) (m : List ℕ) → set m p b ≡ overwrite p (b ∷ []) m

@@ -1,12 +1,11 @@
 -- The append, case by case, as its code goes. Assumes nothing.
 use Prim.Native.Nat.{ℕ, _+_, _≤_, _<_}
 use mathlib.Core.Path.{_≡_, refl, sym, ap, _∙_}
-use mathlib.Core.Bool.{Bool, true, false, cond, _&&_, not}
+use mathlib.Core.Bool.{true, false}
 use mathlib.Core.Option.{Option, none, some}
 use mathlib.Core.List.{List, [], _∷_, _++_}
 use types.Run.{OneOf, miss}
 use denote.Enum.Declared.{tagOf}
-use lib.Dec.{leb}
 use lib.ListN.{length}
 use borrow.Author.Tests.{le-leb, lt-leb}
 use Rattle.limits.specs.Limits.{pageSize, nameLimit, recordExtra}
@@ -34,7 +33,7 @@ use Rattle.store.specs.declared.State.{State}
 use Rattle.store.specs.declared.Appended.the-variants.{Accepted}
 use Rattle.store.specs.State.{firstOf}
 use Rattle.store.specs.Look.{Lent, lent, checked, walkOf, headerOf, headerSound}
-use Rattle.store.specs.Append.{Out, out, declined, roomToGrow, isSaturated, isCrowded, grows, grownState, stateGrown, tableGrown, movedState, recordBytes, standingWritten, appendStanding, newWritten, onKeyRoom, appendNew, onMet, appendOf}
+use Rattle.store.specs.Append.{out, declined, roomToGrow, isSaturated, isCrowded, grows, grownState, stateGrown, tableGrown, movedState, recordBytes, standingWritten, appendStanding, newWritten, onKeyRoom, appendNew, onMet, appendOf}
 
 -- ---- growth
 

@@ -1,8 +1,8 @@
 -- An accepted append of a name that doesn't stand has entered it, on any memory: a table that isn't saturated has shown an empty bucket to the
 -- lookup, and one that has grown has more buckets than were re-entered. Assumes nothing.
 use Prim.Native.Nat.{ℕ, _+_, _*_, _/_, _≤_, _<_}
-use mathlib.Core.Path.{_≡_, refl, sym, ap, _∙_, subst}
-use mathlib.Core.Bool.{Bool, true, false, cond, _&&_, not}
+use mathlib.Core.Path.{_≡_, refl, ap, _∙_, subst}
+use mathlib.Core.Bool.{Bool, true, false, cond}
 use mathlib.Core.Option.{Option, none, some}
 use mathlib.Core.List.{List}
 use native.Mathlib.Omega.{arith}
@@ -12,7 +12,7 @@ use borrow.Author.Tests.{leb-true}
 use Rattle.limits.specs.Limits.{pageSize, nameLimit, recordExtra}
 use Rattle.numbers.specs.LittleEndian.{leNumber, leBytes}
 use Rattle.numbers.proofs.Laws.{length-le, le-round}
-use Rattle.numbers.proofs.Tests.{both, not-both}
+use Rattle.numbers.proofs.Tests.{not-both}
 use Rattle.spans.specs.Span.{readSpan, overwrite}
 use Rattle.spans.proofs.Laws.{length-overwrite, read-written, read-before}
 use Rattle.murmurhash2.specs.Murmur.{murmurHash2}
@@ -24,18 +24,17 @@ use Rattle.memory_arena.proofs.Laws.{sensible-facts, room-in}
 use Rattle.shared_arena_hashmap.specs.declared.Met.{Met}
 use Rattle.shared_arena_hashmap.specs.declared.Met.the-variants.{Empty, Standing, Damaged, Lap}
 use Rattle.shared_arena_hashmap.specs.Power.{grownLength}
-use Rattle.shared_arena_hashmap.specs.Buckets.{addressAt, hashAt, emptyAt}
+use Rattle.shared_arena_hashmap.specs.Buckets.{emptyAt}
 use Rattle.shared_arena_hashmap.specs.Probe.{keyLength, keyAt}
-use Rattle.shared_arena_hashmap.specs.Grow.{freeOf, entered, grown}
+use Rattle.shared_arena_hashmap.specs.Grow.{freeOf}
 use Rattle.shared_arena_hashmap.proofs.Laws.{length-grown}
-use Rattle.shared_arena_hashmap.proofs.Room.{EnteredAt, enters, grown-empty, lookup-empty}
+use Rattle.shared_arena_hashmap.proofs.Room.{enters, grown-empty, lookup-empty}
 use Rattle.expull.specs.declared.Header.{Header}
 use Rattle.expull.specs.Header.{fresh, headerBytes}
 use Rattle.expull.specs.Append.{Writing, writing, appended}
 use Rattle.store.specs.declared.State.{State}
-use Rattle.store.specs.declared.Appended.the-variants.{Accepted, Declined}
-use Rattle.store.specs.declared.Lookup.{Lookup}
-use Rattle.store.specs.declared.Lookup.the-variants.{At as Look·At, Missing, Failed}
+use Rattle.store.specs.declared.Appended.the-variants.{Accepted}
+use Rattle.store.specs.declared.Lookup.the-variants.{Missing, Failed}
 use Rattle.store.specs.State.{firstOf}
 use Rattle.store.specs.Look.{Lent, checked, walkOf, lookupOf, onMet as Look·onMet}
 use Rattle.store.specs.Append.{Out, declined, isSaturated, roomToGrow, isCrowded, grows, grownState, stateGrown, tableGrown, movedState, recordBytes, newWritten, onKeyRoom, appendNew, onMet, appendOf}

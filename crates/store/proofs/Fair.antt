@@ -1,10 +1,10 @@
 -- Of every answer: a refusal changes nothing and gives the state back equal, and its number is one that document 01 lists for that call.
 -- Assumes nothing.
 use Prim.Native.Nat.{ℕ, _+_, _-_}
-use mathlib.Core.Path.{_≡_, refl, sym, ap, _∙_}
-use mathlib.Core.Bool.{Bool, true, false, cond, not, _&&_, _||_}
+use mathlib.Core.Path.{_≡_, refl, sym}
+use mathlib.Core.Bool.{Bool, true, false, cond, _&&_, _||_}
 use mathlib.Core.Option.{Option, none, some}
-use mathlib.Core.List.{List, [], _∷_}
+use mathlib.Core.List.{List}
 use native.Mathlib.Omega.{arith}
 use lib.Dec.{leb, eqb}
 use lib.ListN.{length}
@@ -23,18 +23,15 @@ use Rattle.expull.specs.Append.{Writing, writing, appended, goodTail}
 use Rattle.expull.specs.declared.Block.{Block as Found·Block}
 use Rattle.expull.specs.declared.Block.the-variants.{BlockAt, NoBlock, BadBlock}
 use Rattle.expull.specs.Header.{fresh, laneLength}
-use Rattle.expull.specs.Blocks.{laneBytes, blockOf}
-use Rattle.spans.specs.Span.{overwrite}
+use Rattle.expull.specs.Blocks.{blockOf}
 use Rattle.store.specs.declared.State.{State}
-use Rattle.store.specs.declared.Appended.{Appended}
 use Rattle.store.specs.declared.Appended.the-variants.{Accepted, Declined}
 use Rattle.store.specs.declared.Lookup.{Lookup}
 use Rattle.store.specs.declared.Lookup.the-variants.{At, Missing, Failed}
 use Rattle.store.specs.declared.Answer.{Answer}
 use Rattle.store.specs.declared.Answer.the-variants.{Absent, Found, Refused}
 use Rattle.store.specs.declared.Outcome.the-variants.{Reading}
-use Rattle.store.specs.declared.Listed.{Listed}
-use Rattle.store.specs.declared.Listed.the-variants.{Bucket, NoMore, Stopped}
+use Rattle.store.specs.declared.Listed.the-variants.{Bucket, Stopped}
 use Rattle.store.specs.State.{firstOf}
 use Rattle.store.specs.Said.{saidAppended, saidLookup, saidAnswer, saidListed}
 use Rattle.store.specs.Look.{Lent, checked, walkOf, lookupOf, onLookup, onLookupRead, headerOf, headerSound, lengthAt, lengthOf, Read, reading, blocksSound, readAt, readOf, onBlock, blockAt, findBlockOf, onNext, nextOf}

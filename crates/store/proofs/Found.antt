@@ -1,7 +1,7 @@
 -- The calls that change nothing, case by case, and what a lookup that found a record says of it. Assumes nothing.
-use Prim.Native.Nat.{ℕ, _+_, _-_, _*_, _≤_, _<_}
+use Prim.Native.Nat.{ℕ, _+_, _-_, _≤_, _<_}
 use mathlib.Core.Path.{_≡_, refl, sym, ap, _∙_, subst}
-use mathlib.Core.Bool.{Bool, true, false, cond, _&&_}
+use mathlib.Core.Bool.{Bool, true, false, cond}
 use mathlib.Core.List.{List, [], _∷_}
 use native.Mathlib.Omega.{arith}
 use types.Run.{OneOf, miss}
@@ -18,8 +18,8 @@ use Rattle.murmurhash2.specs.Murmur.{murmurHash2}
 use Rattle.shared_arena_hashmap.specs.declared.Met.{Met}
 use Rattle.shared_arena_hashmap.specs.declared.Met.the-variants.{Empty, Standing, Damaged, Lap}
 use Rattle.shared_arena_hashmap.specs.declared.Next.the-variants.{Occupied, NoMore as NoBucket}
-use Rattle.shared_arena_hashmap.specs.Probe.{keyLength, goodRecord, valuePlace, lookup, occupiedFrom}
-use Rattle.shared_arena_hashmap.proofs.Laws.{power-facts, good-record-in, record-bounds}
+use Rattle.shared_arena_hashmap.specs.Probe.{goodRecord, valuePlace, occupiedFrom}
+use Rattle.shared_arena_hashmap.proofs.Laws.{good-record-in, record-bounds}
 use Rattle.expull.specs.declared.Header.{Header}
 use Rattle.expull.specs.Header.{endBytesAt, soundHeader, laneLength, blockCount}
 use Rattle.expull.specs.Blocks.{goodBlocks, laneBytes, blockOf}
@@ -28,7 +28,6 @@ use Rattle.store.specs.declared.State.{State}
 use Rattle.store.specs.declared.Lookup.{Lookup}
 use Rattle.store.specs.declared.Lookup.the-variants.{At, Missing, Failed}
 use Rattle.store.specs.State.{firstOf}
-use Rattle.store.specs.declared.Head.{Head}
 use Rattle.store.specs.declared.Head.the-variants.{Sound, Broken}
 use Rattle.store.specs.declared.Listed.the-variants.{Bucket, NoMore, Stopped}
 use Rattle.store.specs.declared.Counted.the-variants.{Keys, Unknown}
@@ -37,7 +36,7 @@ use Rattle.store.specs.declared.Answer.{Answer}
 use Rattle.store.specs.declared.Answer.the-variants.{Found, Refused}
 use Rattle.store.specs.declared.Outcome.the-variants.{Length, Reading}
 use Rattle.store.specs.Look.{Lent, checked, walkOf, onMet, lookupOf, onLookup, onLookupRead, notFound, headerOf, headerSound, headOf, lengthAt, lengthOf, reading, blocksSound, readAt, readOf, onBlock, blockAt, findBlockOf, onNext, nextOf, showOf, countOf}
-use Rattle.store.proofs.Whole.{Whole, whole-facts}
+use Rattle.store.proofs.Whole.{whole-facts}
 
 -- ---- lookup
 

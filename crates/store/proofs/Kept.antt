@@ -1,16 +1,16 @@
 -- An accepted creation or append gives a state that passes the whole-state check, on any memory, or the next call would be refused for what this one did.
 -- Assumes nothing.
-use Prim.Native.Nat.{ℕ, zero, suc, _+_, _*_, _/_, _≤_, _<_}
-use mathlib.Core.Path.{_≡_, refl, sym, ap, _∙_, subst}
-use mathlib.Core.Bool.{Bool, true, false, cond, _&&_, not}
+use Prim.Native.Nat.{ℕ, _+_, _*_, _/_, _≤_, _<_}
+use mathlib.Core.Path.{_≡_, refl, sym, _∙_, subst}
+use mathlib.Core.Bool.{Bool, true, false, cond, _&&_}
 use mathlib.Core.Option.{Option, none, some}
 use mathlib.Core.List.{List}
 use native.Mathlib.Omega.{arith}
 use lib.Dec.{leb}
 use lib.ListN.{length}
-use borrow.Author.Tests.{leb-true, leb-false}
-use Rattle.limits.specs.Limits.{pageSize, nameLimit, recordExtra, bucketLimit}
-use Rattle.numbers.proofs.Tests.{both, not-both}
+use borrow.Author.Tests.{leb-false}
+use Rattle.limits.specs.Limits.{pageSize, nameLimit, recordExtra}
+use Rattle.numbers.proofs.Tests.{not-both}
 use Rattle.spans.specs.Span.{overwrite}
 use Rattle.spans.proofs.Laws.{length-overwrite}
 use Rattle.murmurhash2.specs.Murmur.{murmurHash2}
@@ -27,16 +27,16 @@ use Rattle.shared_arena_hashmap.specs.Buckets.{cleared}
 use Rattle.shared_arena_hashmap.specs.Probe.{valuePlace}
 use Rattle.shared_arena_hashmap.specs.Grow.{entered, grown}
 use Rattle.shared_arena_hashmap.proofs.Laws.{rounded-is-power, grown-is-power, length-cleared, length-entered, length-grown}
-use Rattle.expull.specs.Header.{fresh, headerBytes, soundHeader}
+use Rattle.expull.specs.Header.{fresh, headerBytes}
 use Rattle.expull.specs.Append.{Writing, writing, appended, goodTail}
 use Rattle.expull.proofs.Laws.Append.{appended-length, appended-sensible}
 use Rattle.store.specs.declared.State.{State}
 use Rattle.store.specs.declared.Created.the-variants.{Made, Barred}
-use Rattle.store.specs.declared.Appended.the-variants.{Accepted, Declined}
+use Rattle.store.specs.declared.Appended.the-variants.{Accepted}
 use Rattle.store.specs.Create.{out as Create·out, creatable, freshState, createOf}
 use Rattle.store.specs.State.{wordsTaken, firstOf}
 use Rattle.store.specs.Look.{Lent, lent, checked, walkOf, headerOf, headerSound}
-use Rattle.store.specs.Append.{Out, out, declined, isSaturated, roomToGrow, isCrowded, grows, grownState, stateGrown, tableGrown, movedState, recordBytes, standingWritten, appendStanding, newWritten, onKeyRoom, appendNew, onMet, appendOf}
+use Rattle.store.specs.Append.{Out, declined, isSaturated, roomToGrow, isCrowded, grows, grownState, stateGrown, tableGrown, movedState, recordBytes, standingWritten, appendStanding, newWritten, onKeyRoom, appendNew, onMet, appendOf}
 use Rattle.store.proofs.Whole.{Whole, whole-facts, whole-made, Growable, growable, grown-stands, creatable-facts, unused-sensible}
 use Rattle.store.proofs.Cases.{state-stays, state-grows, stays-unsaturated, stays-crowded, does-grow}
 

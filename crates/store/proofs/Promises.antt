@@ -1,6 +1,6 @@
 -- The store's promises, one value each. Assumes nothing.
 use Prim.Native.Nat.{ℕ}
-use mathlib.Core.Path.{_≡_, refl, sym, ap, _∙_}
+use mathlib.Core.Path.{_≡_, refl, ap, _∙_}
 use mathlib.Core.Bool.{Bool, true, false, cond}
 use mathlib.Core.List.{List}
 use native.Mathlib.Omega.{arith}
@@ -11,9 +11,8 @@ use Rattle.shared_arena_hashmap.specs.Buckets.{cleared}
 use Rattle.store.specs.declared.State.{State}
 use Rattle.store.specs.declared.Created.the-variants.{Made, Barred}
 use Rattle.store.specs.declared.Appended.the-variants.{Declined}
-use Rattle.store.specs.declared.Answer.the-variants.{Absent, Refused}
 use Rattle.store.specs.Create.{out as creation, creatable, freshState, createOf}
-use Rattle.store.specs.Look.{Lent, reading, readOf}
+use Rattle.store.specs.Look.{Lent, reading}
 use Rattle.store.specs.Append.{out, declined, appendOf}
 use Rattle.store.specs.Promises.{Promises, Settled}
 use Rattle.store.proofs.Fair.{fair-append, fair-read}

@@ -1,12 +1,12 @@
 -- RULES V10 to V14. Document 01: an append. "Whether a key stands is decided in the table before growth." Everything
 -- is planned before anything is written: each refusal, the lowest that applies, leaves the lent memory and the state
 -- as they were.
-use Prim.Native.Nat.{ℕ, _+_, _-_, _*_}
+use Prim.Native.Nat.{ℕ, _+_}
 use mathlib.Core.Path.{_≡_}
-use mathlib.Core.Bool.{Bool, true, false, cond, _&&_, _||_, not}
+use mathlib.Core.Bool.{Bool, true, cond, _&&_, not}
 use mathlib.Core.Option.{Option, none, some}
-use mathlib.Core.List.{List, [], _∷_, _++_}
-use lib.Dec.{leb, ltb, eqb}
+use mathlib.Core.List.{List, _++_}
+use lib.Dec.{leb}
 use lib.ListN.{length}
 use Rattle.limits.specs.Limits.{pageSize, nameLimit, recordExtra}
 use Rattle.numbers.specs.LittleEndian.{leBytes}
@@ -19,7 +19,7 @@ use Rattle.memory_arena.specs.Pages.{roomFor}
 use Rattle.shared_arena_hashmap.specs.declared.Met.{Met}
 use Rattle.shared_arena_hashmap.specs.declared.Met.the-variants.{Empty, Standing, Damaged, Lap}
 use Rattle.shared_arena_hashmap.specs.Power.{grownLength}
-use Rattle.shared_arena_hashmap.specs.Buckets.{firstBucket, saturated}
+use Rattle.shared_arena_hashmap.specs.Buckets.{saturated}
 use Rattle.shared_arena_hashmap.specs.Probe.{valuePlace}
 use Rattle.shared_arena_hashmap.specs.Grow.{entered, grown}
 use Rattle.expull.specs.declared.Header.{Header}

@@ -2,9 +2,8 @@
 -- worked out from the definitions that the contracts cite.
 use Prim.Native.Nat.{ℕ}
 use mathlib.Core.Path.{_≡_, refl}
-use mathlib.Core.Bool.{Bool, true, false}
 use mathlib.Core.List.{List, [], _∷_}
-use lib.ListN.{length, replicate}
+use lib.ListN.{replicate}
 use Rattle.limits.specs.Refusals.{answered, refused, created, accepted, aPlace, absent, aLength, aReading, aBlock, noSuchBlock, aBucket, noBucket, aCount}
 use Rattle.spans.specs.Span.{overwrite}
 use Rattle.store.specs.declared.State.{State}

@@ -2,9 +2,9 @@
 -- many empty buckets at the front of the lent table, nothing else." Refusal 1: capacity 0; an arena of length 0 or
 -- too long; table words odd, too many, or under twice the rounded capacity.
 use Prim.Native.Nat.{ℕ}
-use mathlib.Core.Bool.{Bool, true, false, cond, _&&_}
+use mathlib.Core.Bool.{Bool, false, cond, _&&_}
 use mathlib.Core.List.{List}
-use lib.Dec.{leb, ltb, eqb}
+use lib.Dec.{leb, ltb}
 use lib.ListN.{length}
 use Rattle.limits.specs.Limits.{arenaLimit}
 use Rattle.memory_arena.specs.declared.Arena.{Arena}

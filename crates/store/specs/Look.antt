@@ -1,10 +1,10 @@
 -- RULES V1 to V9. The calls that change nothing but a lent output: lookup, length, reading, a block found and shown,
 -- listing, the number of keys. Each makes the whole-state check first (2), then those by name test the name's length
 -- (3), then they look it up (4, or absent).
-use Prim.Native.Nat.{ℕ, _+_, _-_}
-use mathlib.Core.Bool.{Bool, true, false, cond, _&&_}
+use Prim.Native.Nat.{ℕ, _-_}
+use mathlib.Core.Bool.{Bool, cond, _&&_}
 use mathlib.Core.List.{List, []}
-use lib.Dec.{leb, ltb, eqb}
+use lib.Dec.{leb}
 use lib.ListN.{length}
 use Rattle.limits.specs.Limits.{pageSize, nameLimit}
 use Rattle.spans.specs.Span.{readSpan, overwrite}
@@ -27,7 +27,6 @@ use Rattle.store.specs.declared.Head.{Head}
 use Rattle.store.specs.declared.Head.the-variants.{Sound, Broken}
 use Rattle.store.specs.declared.Lookup.{Lookup}
 use Rattle.store.specs.declared.Lookup.the-variants.{At, Missing, Failed}
-use Rattle.store.specs.declared.Outcome.{Outcome}
 use Rattle.store.specs.declared.Outcome.the-variants.{Length, Reading, Block, NoSuchBlock}
 use Rattle.store.specs.declared.Answer.{Answer}
 use Rattle.store.specs.declared.Answer.the-variants.{Absent, Found, Refused}

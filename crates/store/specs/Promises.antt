@@ -9,7 +9,6 @@ use Rattle.murmurhash2.specs.Murmur.{murmurHash2}
 use Rattle.shared_arena_hashmap.specs.Buckets.{addressAt, hashAt, emptyAt}
 use Rattle.shared_arena_hashmap.specs.Probe.{keyAt}
 use Rattle.store.specs.declared.State.{State}
-use Rattle.store.specs.declared.Created.{Created}
 use Rattle.store.specs.declared.Created.the-variants.{Made, Barred}
 use Rattle.store.specs.declared.Appended.the-variants.{Accepted, Declined}
 use Rattle.store.specs.declared.Lookup.{Lookup}

@@ -1,9 +1,8 @@
 // The whole-state check, and where the standing table is.
 use crate::State;
 ghost use mathlib.Core.Path.{_≡_};
-ghost use mathlib.Core.Bool.{true};
-ghost use Prim.Native.Nat.{_≤_, _/_};
-ghost use Rattle.store.specs.State.{wholeState, wordsTaken, lengthsEqual, tableFits, firstOf};
+ghost use Prim.Native.Nat.{_/_};
+ghost use Rattle.store.specs.State.{wholeState, wordsTaken, lengthsEqual, tableFits};
 
 // Table words such as creation takes.
 pub fn is_taken(words: usize) -> bool

@@ -4,7 +4,6 @@ use crate::State;
 use memory_arena::Arena;
 ghost use mathlib.Core.Path.{_≡_};
 ghost use mathlib.Core.Bool.{true};
-ghost use mathlib.Core.List.{[], _∷_};
 ghost use lib.ListN.{length};
 ghost use Rattle.limits.specs.Limits.{arenaLimit};
 ghost use Rattle.limits.specs.Refusals.{creating, permitted};

@@ -13,15 +13,13 @@ use shared_arena_hashmap::Next;
 use shared_arena_hashmap::Walk;
 ghost use mathlib.Core.Path.{_≡_};
 ghost use mathlib.Core.Bool.{true};
-ghost use mathlib.Core.List.{[], _∷_};
 ghost use Prim.Native.Nat.{_+_, _≤_};
 ghost use lib.ListN.{length};
 ghost use Rattle.limits.specs.Refusals.{lookingUp, measuring, readingLane, findingBlock, listingBuckets, countingKeys, permitted};
 ghost use Rattle.memory_arena.specs.Calls.{sensible};
 ghost use Rattle.shared_arena_hashmap.specs.Probe.{valuePlace};
 ghost use Rattle.store.specs.Said.{saidLookup, saidAnswer, saidListed, saidCounted};
-ghost use Rattle.store.specs.State.{wholeState};
-ghost use Rattle.store.specs.Look.{lent, checked, walkOf, onMet, lookupOf, notFound, headOf, lengthAt, lengthOf, reading, readAt, readOf, onBlock, blockAt, findBlockOf, showOf, onNext, nextOf, countOf};
+ghost use Rattle.store.specs.Look.{lent, onMet, lookupOf, notFound, lengthAt, lengthOf, reading, readAt, readOf, onBlock, blockAt, findBlockOf, showOf, onNext, nextOf, countOf};
 
 fn on_met(met: Met) -> Lookup
     ensures { λ r. ⌜ r ≡ onMet met ⌝ }

@@ -5,7 +5,6 @@
 // reads back as itself and that no accepted form of it is shorter. It uses limits and numbers, in contracts and proofs alone.
 ghost use mathlib.Core.Path.{_≡_};
 ghost use mathlib.Core.Bool.{true};
-ghost use mathlib.Core.List.{[], _∷_};
 ghost use Prim.Native.Nat.{_+_, _*_, _%_, _^_, _≤_, _<_};
 ghost use Rattle.limits.specs.Refusals.{unvinting, permitted};
 ghost use Rattle.vint.specs.Vint.{vintOf, ended, answerOf, readVint, saidUnvint};

@@ -10,7 +10,7 @@ use native.Mathlib.Omega.{arith}
 use lib.Dec.{eqb, eqb·suc-zero}
 use lib.ListN.{length, length-append}
 use borrow.Author.Tests.{eq-eqb, ne-eqb, eqb-true, eqb-false, leb-true}
-use Rattle.limits.specs.Limits.{nullAddress, pageSize, arenaLimit, freshNumber, numberLimit, linkSize}
+use Rattle.limits.specs.Limits.{nullAddress, pageSize, arenaLimit, freshNumber, linkSize}
 use Rattle.numbers.specs.LittleEndian.{leBytes}
 use Rattle.spans.specs.Span.{overwrite}
 use Rattle.spans.proofs.Laws.{length-overwrite, overwrite-append, overwrite-none}
@@ -24,7 +24,7 @@ use Rattle.memory_arena.proofs.Laws.{split, place-of, standing-facts, good-end,
 use Rattle.expull.specs.declared.Header.{Header}
 use Rattle.expull.specs.Header.{blockSize, soundHeader, blockCount, takenBytes}
 use Rattle.expull.specs.Append.{Writing, nextWide, headWith, linked, headerWith, withBlock, onRoom, takeBlock, ready, moved, filled, andThen, appended, onRoomDry, planned, planOf, isSome, goodTail}
-use Rattle.expull.proofs.Laws.Header.{taken-next, Begun, size-pos, Shape, sound-facts, sound-made}
+use Rattle.expull.proofs.Laws.Header.{taken-next, size-pos, Shape, sound-facts}
 
 -- ---- outcomes
 
@@ -135,9 +135,6 @@ appended-ready (b ∷ bs) w h = go (eqb (w .header .remaining) 0) refl
     go false e =
         let z = eqb-false (w .header .remaining) 0 e in
         sym (ap (λ (o : Option Writing). andThen o (appended (b ∷ bs))) (ready-kept w (omega (arith, z))))
-
-pub appended-block : (bs : List ℕ) (w : Writing) → 0 < length bs → w .header .remaining ≡ 0 → appended bs w ≡ andThen (takeBlock w) (appended bs)
-appended-block bs w h e = appended-ready bs w h ∙ rw (ready-taken w e)
 
 -- ---- the dry run decides
 
@@ -428,29 +425,7 @@ appended-sensible bs w v s e =
     (ready-cases (λ y. sensible (y .arena) (length (y .memory)) ≡ true) u x (λ h. k)
     (λ at a f. rw length-linked (room-sensible (u .arena) (length (u .memory)) (nextWide (u .header)) at a (omega arith) k f)) r)) bs w v s e)
 
--- what an append needs it also leaves, so the next append finds no damage
-pub appended-reached : (bs : List ℕ) (w v : Writing) → Working w → appended bs w ≡ some v → Reached w v
-appended-reached bs w v k e =
-    appended-keeps (Reached w)
-    (λ u x b p q.
-    let r = ready-reached u x (p .working) q in
-    let f = filled-reached (b ∷ []) x (r .reached .working) (r .room) (r .room) in
-    reached-then w u _ p (reached-then u x _ (r .reached) f)) bs w v (record { working = k; onward = onward-none w }) e
-
--- a block is taken only for a byte, so the last block stays begun
-pub appended-begun : (bs : List ℕ) (w v : Writing) → Working w → Begun (w .header) → appended bs w ≡ some v → Begun (v .header)
-unfolding filled
-appended-begun bs w v k s e =
-    appended-keeps (λ u. Working u × Begun (u .header))
-    (λ u x b p q.
-    let r = ready-reached u x (p .0) q in
-    let f = filled-reached (b ∷ []) x (r .reached .working) (r .room) (r .room) in
-    (f .working, λ n. omega (arith, r .room, r .reached .working .shape .within))) bs w v (k, s) e .1
-
 -- from what a store has checked to what it may rely on
 pub working-made : (w : Writing) → sensible (w .arena) (length (w .memory)) ≡ true → soundHeader (w .header) 0 ≡ true → goodTail (w .arena) (w .header) ≡ true
     → Working w
 working-made w s h t = record { sense = s; shape = sound-facts (w .header) 0 h .shape; tail = t }
-
-pub working-sound : (w : Writing) → Working w → w .header .number ≤ numberLimit → soundHeader (w .header) 0 ≡ true
-working-sound w k l = sound-made (w .header) 0 (record { shape = k .shape; to = l; closed = refl })

@@ -3,7 +3,7 @@ use Prim.Native.Nat.{ℕ, zero, suc, _+_, _-_, _*_, _%_, _^_, _≤_, _<_, min}
 use mathlib.Core.Path.{_≡_, refl, sym, ap, _∙_, subst}
 use mathlib.Core.Bool.{Bool, true, false, cond, _&&_, not}
 use mathlib.Core.List.{List, _++_}
-use native.Mathlib.Nat.{le-trans, one-mul, add-zero, add-suc, min-eq-left, min-eq-right, min-le-right, le-min, pow-suc}
+use native.Mathlib.Nat.{one-mul, add-zero, add-suc, min-eq-left, min-eq-right, min-le-right, le-min, pow-suc}
 use native.Mathlib.Omega.{arith}
 use lib.Dec.{leb, eqb, lit<, lit≤}
 use lib.Pow.{pow-pos, pow-mono, shl-exact}
@@ -85,14 +85,6 @@ taken-next b h =
     let n : b - freshNumber + 3 ≡ b + 1 = omega arith in
     let f : fullBytes (suc (b - freshNumber)) ≡ fullBytes (b - freshNumber) + blockSize (b + 1) = full-more (b - freshNumber) ∙ rw n in
     rw e (omega arith)
-
--- blocks that fit any memory of 32-bit addresses are far fewer than the largest block number that isn't damage
-pub taken-few : (k : ℕ) → takenBytes k ≤ 2 ^ 32 → k + freshNumber ≤ numberLimit
-taken-few k h = go (leb 13 k) refl
-  where
-    go : (t : Bool) → leb 13 k ≡ t → k + freshNumber ≤ numberLimit
-    go true e = omega (arith, full-closed-high k (leb-true _ _ e))
-    go false e = omega (arith, leb-false 13 k e)
 
 -- ---- sound headers
 
@@ -252,30 +244,3 @@ header-written p h m =
     rw (next p 4 (h .number), next (p + 4) 4 (h .head), a, next (p + 8) 4 (h .tail), b, next (p + 12) 2 (h .remaining), c)
 
 -- ---- the room that a lane takes
-
--- the last block holds a byte
-abbrev pub Begun : Header → Type 0
-Begun h = (h .number ≡ freshNumber → ⊥) → h .remaining < blockSize (h .number)
-
-size-double : (b : ℕ) → blockSize (suc b) ≤ 2 * blockSize b
-unfolding blockSize
-size-double b = le-trans (pow-mono {i = min (suc b) 15} {j = suc (min b 15)} (omega arith)) (omega (arith, pow-suc 2 (min b 15)))
-
--- each block is at most 8 more than all before it
-size-sum : (k : ℕ) → blockSize (k + 3) ≤ fullBytes k + 8
-size-sum zero = omega (arith, size-low 3 (lit≤ tt))
-size-sum (suc k) = let e : suc k + 3 ≡ suc (k + 3) = omega arith in rw e (omega (arith, size-double (k + 3), size-sum k, full-more k))
-
--- "With k blocks and n bytes, n ≥ 1, a lane takes at most 2n + 6 + 4k list bytes, page tails not counted."
-pub lane-takes : (h : Header) → soundHeader h 0 ≡ true → Begun h → takenBytes (blockCount h) ≤ 2 * laneLength h + 6 + linkSize * blockCount h
-lane-takes h s b = go (eqb (h .number) freshNumber) refl
-  where
-    go : (t : Bool) → eqb (h .number) freshNumber ≡ t → takenBytes (blockCount h) ≤ 2 * laneLength h + 6 + linkSize * blockCount h
-    go true e =
-        let z : blockCount h ≡ 0 = omega (arith, eqb-true (h .number) freshNumber e) in
-        omega (arith, ap fullBytes z, full-none)
-    go false e =
-        let n = eqb-false (h .number) freshNumber e in
-        let l : blockCount h - 1 + 3 ≡ h .number = omega (arith, n, sound-facts h 0 s .shape .from) in
-        let m = rw l at (size-sum (blockCount h - 1)) in
-        omega (arith, length-blocks h s n, length-parts h n, b n)

@@ -1,6 +1,5 @@
 -- The refusals in their order, then the walk. Assumes nothing.
 use mathlib.Core.Bool.{true}
-use mathlib.Core.List.{[], _∷_}
 use mathlib.Core.Path.{_≡_, refl, sym, ap, subst, _∙_}
 use native.Mathlib.Omega.{arith}
 use borrow.Author.Needs.{needs}
