@@ -23,17 +23,17 @@ out a d = record { answer = a; dst = d }
 unfoldable pub copyOf : List ℕ → List ℕ → Out
 copyOf src dst = cond (eqb (length src) (length dst)) (out Done src) (out (Refused 9) dst)
 
--- the answer in document 01's terms
+-- RULES X7. The answer in document 01's terms.
 abbrev pub saidCopied : Copied → Said
 saidCopied Done = answered done []
 saidCopied (Refused n) = refused n []
 
--- a row a case: what the call says then
+-- RULES X7. A row a case: what the call says then.
 pub said-cases : (saidCopied (copyOf (1 ∷ 2 ∷ []) (3 ∷ 4 ∷ []) .answer) ≡ answered done [])
     × (saidCopied (copyOf (1 ∷ 2 ∷ []) (3 ∷ []) .answer) ≡ refused 9 [])
 unfolding copyOf
 said-cases = (refl, refl)
 
--- the promise permits one outcome
+-- RULES X8. The promise permits one outcome.
 pub copy-settled : (src dst : List ℕ) {x y : Out} → x ≡ copyOf src dst → y ≡ copyOf src dst → x ≡ y
 copy-settled src dst p q = one-outcome p q

@@ -1,49 +1,48 @@
 -- The theorems: of every store that was born by an accepted creation, and of every list of calls on it. Assumes nothing.
 use Prim.Native.Nat.{ℕ, _+_, _≤_, _<_}
 use mathlib.Core.Path.{_≡_, refl, sym, ap, _∙_, subst}
-use mathlib.Core.Logic.{inl, inr}
+use mathlib.Core.Logic.{inl, inr, _≢_}
 use mathlib.Core.Bool.{Bool, true, false, cond, false≢true}
 use mathlib.Core.Option.{Option, none, some}
-use mathlib.Core.List.{List, [], _∷_}
+use mathlib.Core.List.{List, []}
 use native.Mathlib.Omega.{arith}
 use lib.Dec.{leb}
 use lib.ListN.{length}
 use borrow.Author.Tests.{leb-true, leb-false}
-use Rattle.limits.specs.Limits.{pageSize, nameLimit, recordExtra}
-use Rattle.limits.specs.Refusals.{listed}
+use Rattle.limits.specs.Limits.{nameLimit}
 use Rattle.numbers.proofs.Tests.{same-test}
-use Rattle.memory_arena.specs.declared.Arena.{Arena}
-use Rattle.memory_arena.specs.declared.Allocated.{Allocated}
-use Rattle.memory_arena.specs.declared.Allocated.the-variants.{At, NoRoom, Refused}
-use Rattle.memory_arena.specs.Pages.{roomFor}
-use Rattle.expull.specs.Header.{fresh}
-use Rattle.expull.specs.Append.{planOf}
+use Rattle.murmurhash2.specs.Murmur.{murmurHash2}
 use Rattle.shared_arena_hashmap.specs.Power.{roundedDown}
-use Rattle.store.specs.declared.State.{State}
 use Rattle.store.specs.declared.Lookup.the-variants.{Failed}
-use Rattle.store.specs.Said.{saidAppended}
-use Rattle.store.specs.Look.{Lent, lookupOf}
-use Rattle.store.specs.Append.{Out, isCrowded}
+use Rattle.store.specs.Look.{walkOf, lookupOf}
+use Rattle.store.specs.Append.{Out}
 use Rattle.store.proofs.Found.{lookup-3}
 use Rattle.history_names.proofs.Grow.{clears-count}
-use Rattle.history.specs.History.{World, Call, appends, Born, isAccepted, accepts, left, after, play, joined, isJoined, among, acceptedNames}
-use Rattle.history.specs.Due.{shapeOf, dueBlocks, dueRecord, dueList, dueNew, dueBy, due}
+use Rattle.history_names.proofs.Lookup.{looks-few}
+use Rattle.history.specs.History.{World, Call, appends, looksUp, asksLength, reads, findsBlock, showsBlock}
+use Rattle.history.specs.History.{listsFrom, countsKeys, Born, isAccepted, accepts, left, after, play}
+use Rattle.history.specs.History.{joined, isJoined, among, acceptedNames}
+use Rattle.history.specs.Due.{shapeOf, dueList, dueBy, due}
+use Rattle.history.specs.Numbers.{appendedNumber, numberOf, dueOf, numbersOf, isOneOf}
 use Rattle.history.specs.Promises.{ReadsAs, AnswersDue, HasNames}
 use Rattle.history.specs.Frames.{LeavesAlone}
+use Rattle.history.specs.Demand.{Demand3}
 use Rattle.history.specs.Sound.{Ghosts, Sound}
+use Rattle.history.proofs.Log.{play-more, log-more}
 use Rattle.history.proofs.Answers.{Declines, Accepts, Answers, answers-long, answers-standing, answers-new, answers-any}
 use Rattle.history.proofs.Born.{nobody, born-sound, born-empty}
 use Rattle.history.proofs.Told.{Says, Counts, Played, played}
 use Rattle.history.proofs.Shape.{lane-due}
 use Rattle.history.proofs.Readings.{reads-as}
 use Rattle.history.proofs.Listed.{has-names}
+use Rattle.history.proofs.Numbers.{due-of-listed, never-these, number-due}
 use Rattle.history.proofs.Frames.{leaves-alone}
 
 -- ---- an append to a sound store, by the number that it is due
 
 due-declines : (w : World) (name bytes : List ℕ) (n : ℕ) → Declines w name bytes n → AnswersDue w name bytes n
 due-declines w name bytes n D = record {
-  said = ap (λ (o : Out). saidAppended (o .answer) .number) (D .said);
+  said = ap (λ (o : Out). appendedNumber (o .answer)) (D .said);
   accepted = λ z. absurd (D .some-number z);
   refused = λ f. D .said;
 }
@@ -51,7 +50,7 @@ due-declines w name bytes n D = record {
 due-answers : (w : World) (G : Ghosts) (name bytes : List ℕ) (n : ℕ) → Answers w G name bytes n → AnswersDue w name bytes n
 due-answers w G name bytes n (inl D) = due-declines w name bytes n D
 due-answers w G name bytes n (inr A) = record {
-  said = ap (λ (o : Out). saidAppended (o .answer) .number) (A .said) ∙ sym (A .no-number);
+  said = ap (λ (o : Out). appendedNumber (o .answer)) (A .said) ∙ sym (A .no-number);
   accepted = λ z. ap (λ (o : Out). isAccepted (o .answer)) (A .said);
   refused = λ f. absurd (f (A .no-number));
 }
@@ -74,39 +73,6 @@ due-said {w} {G} S name bytes o s = go (leb (length name) nameLimit) refl
     go true e = due-stood S name bytes (leb-true _ _ e) o s
     go false e = due-declines w name bytes 3 (answers-long S name bytes (leb-false _ _ e))
 
--- the numbers that can be due
-abbrev dueNumbers : List ℕ
-dueNumbers = 3 ∷ 5 ∷ 6 ∷ 7 ∷ []
-
-listed-blocks : (o : Option Arena) → listed dueNumbers (dueBlocks o) ≡ true
-listed-blocks none = refl
-listed-blocks (some a) = refl
-
-listed-list : (st : State) (m : Lent) (h : _) (n : ℕ) → listed dueNumbers (dueList st m h n) ≡ true
-unfolding dueList
-listed-list st m h n = listed-blocks (planOf (length (m .lists)) (st .«list_arena») h n)
-
-listed-record : (r : Allocated) (n : ℕ) → listed dueNumbers n ≡ true → listed dueNumbers (dueRecord r n) ≡ true
-listed-record (At at a) n e = e
-listed-record NoRoom n e = refl
-listed-record (Refused k) n e = refl
-
-listed-new : (st : State) (m : Lent) (name : List ℕ) (n : ℕ) → listed dueNumbers (dueNew st m name n) ≡ true
-unfolding dueNew
-listed-new st m name n = go (isCrowded st)
-  where
-    go : (b : Bool)
-        → listed dueNumbers
-        (cond b 5 (dueRecord (roomFor pageSize (st .«key_arena») (length (m .keys)) (length name + recordExtra)) (dueList st m fresh n)))
-        ≡ true
-    go true = refl
-    go false =
-        listed-record (roomFor pageSize (st .«key_arena») (length (m .keys)) (length name + recordExtra)) (dueList st m fresh n) (listed-list st m fresh n)
-
-listed-by : (st : State) (m : Lent) (name : List ℕ) (o : Option (List ℕ)) (n : ℕ) → listed dueNumbers (dueBy st m name o n) ≡ true
-listed-by st m name none n = listed-new st m name n
-listed-by st m name (some bs) n = listed-list st m (shapeOf (length bs)) n
-
 -- an append that is accepted
 accepted-took : (w : World) (G : Ghosts) (name bytes : List ℕ) (n : ℕ) → Answers w G name bytes n → accepts w name bytes ≡ true → Accepts w G name bytes n
 accepted-took w G name bytes n (inl D) e = absurd (false≢true (sym (ap (λ (o : Out). isAccepted (o .answer)) (D .said)) ∙ e))
@@ -115,17 +81,15 @@ accepted-took w G name bytes n (inr A) e = A
 -- ---- the theorems
 
 module _ (capacity seed : ℕ) (table keys lists : List ℕ) (w : World) (B : Born capacity seed table keys lists w) where
-  history : (calls : List Call) → Played w (nobody (roundedDown capacity)) calls
+  -- what a history leaves: a sound store, in which stands what the log says
+  pub history : (calls : List Call) → Played w (nobody (roundedDown capacity)) calls
   history calls = played (born-sound capacity seed table keys lists w B) calls
 
-  says : (calls : List Call) (name : List ℕ) → Says (play calls w) (history calls .ghosts) name (joined name calls w)
+  pub says : (calls : List Call) (name : List ℕ)
+      → Says (play calls w) (history calls .ghosts) name (joined name calls w)
   says calls name = history calls .says name none (born-empty capacity seed table keys lists name)
 
-  -- every history leaves a sound store
-  pub history-sound : (calls : List Call) → (G : Ghosts) × Sound (play calls w) G
-  history-sound calls = (history calls .ghosts, history calls .sound)
-
-  -- DEMAND 3: after any calls, every name reads as its accepted appends joined in order, and as absent where there was none
+  -- after any calls, every name reads as its accepted appends joined in order, and as absent where there was none
   pub reads-back : (calls : List Call) (name : List ℕ) → length name ≤ nameLimit → ReadsAs (play calls w) name (joined name calls w)
   reads-back calls name short = reads-as (history calls .sound) name short (joined name calls w) (says calls name)
 
@@ -139,12 +103,12 @@ module _ (capacity seed : ℕ) (table keys lists : List ℕ) (w : World) (B : Bo
       go none e s = e
       go (some bs) e s = absurd (omega (arith, history calls .sound .records name (s .0) .short))
 
-  -- an append is accepted or refused exactly as it is due; so in a history no call meets 2, and no append 4
+  -- an append is accepted or refused exactly as it is due
   pub refusals-exact : (calls : List Call) (name bytes : List ℕ)
       → AnswersDue (play calls w) name bytes (due (play calls w .state) (play calls w .memory) name (joined name calls w) (length bytes))
   refusals-exact calls name bytes = due-said (history calls .sound) name bytes (joined name calls w) (says calls name)
 
-  counts : (calls : List Call) → Counts (play calls w) (history calls .ghosts) (acceptedNames calls w)
+  pub counts : (calls : List Call) → Counts (play calls w) (history calls .ghosts) (acceptedNames calls w)
   unfolding among
   counts calls =
       history calls .counts [] (record {
@@ -177,11 +141,59 @@ module _ (capacity seed : ℕ) (table keys lists : List ℕ) (w : World) (B : Bo
             (leaves-alone (history calls .sound) name bytes (A .world) (A .took) (joined name calls w) (says calls name)),
       )
 
--- only 3, 5, 6 and 7 are ever due
-pub due-listed : (st : State) (m : Lent) (name : List ℕ) (stood : Option (List ℕ)) (n : ℕ) → listed (3 ∷ 5 ∷ 6 ∷ 7 ∷ []) (due st m name stood n) ≡ true
-unfolding due
-due-listed st m name stood n = go (leb (length name) nameLimit)
-  where
-    go : (b : Bool) → listed dueNumbers (cond b (dueBy st m name stood n) 3) ≡ true
-    go true = listed-by st m name stood n
-    go false = refl
+  -- the calls' numbers
+  pub numbers-exact : (calls : List Call) (c : Call)
+      → numberOf c (play calls w) ≡ dueOf c (play calls w) (λ name. joined name calls w)
+  numbers-exact calls =
+      number-due (play calls w) (λ name. joined name calls w) (reads-back calls) (λ name l. long-never calls name l .1)
+      (refusals-exact calls) (acceptedNames calls w) (names-exact calls)
+
+  pub numbers-listed : (calls : List Call) (c : Call) → isOneOf (numbersOf c) (numberOf c (play calls w)) ≡ true
+  numbers-listed calls c =
+      ap (isOneOf (numbersOf c)) (numbers-exact calls c)
+      ∙ due-of-listed c (play calls w) (λ name. joined name calls w)
+
+  -- a call that is refused leaves everything
+  pub refused-unchanged : (calls : List Call) (c : Call) → numberOf c (play calls w) ≢ 0
+      → after c (play calls w) ≡ play calls w
+  refused-unchanged calls (appends name bytes) f =
+      let A = refusals-exact calls name bytes in
+      ap left (A .refused (λ z. f (A .said ∙ z)))
+  refused-unchanged calls (looksUp name) f = refl
+  refused-unchanged calls (asksLength name) f = refl
+  refused-unchanged calls (reads name output) f = refl
+  refused-unchanged calls (findsBlock name i) f = refl
+  refused-unchanged calls (showsBlock at n) f = refl
+  refused-unchanged calls (listsFrom i) f = refl
+  refused-unchanged calls countsKeys f = refl
+
+  -- a lookup looks at no more than one bucket more than there are names, in a table of any length
+  pub walk-few : (calls : List Call) (name : List ℕ)
+      → walkOf (play calls w .state) (play calls w .memory) name .looked ≤ play calls w .state .keys + 1
+  unfolding walkOf
+  walk-few calls name =
+      let v : World = play calls w in
+      let S = history calls .sound in
+      omega (
+        arith,
+        looks-few (S .table) (v .memory .keys) (v .state .«key_arena») (murmurHash2 (v .state .seed) name) name,
+        S .counted,
+      )
+
+  -- DEMAND 3
+  pub demand-3 : (calls : List Call) → Demand3 w calls
+  demand-3 calls = record {
+    reads-back = reads-back calls;
+    long-never = long-never calls;
+    frames = frames calls;
+    refusals-exact = refusals-exact calls;
+    refused-unchanged = refused-unchanged calls;
+    numbers-exact = numbers-exact calls;
+    numbers-listed = numbers-listed calls;
+    never-2-or-4 = λ c. never-these c (numberOf c (play calls w)) (numbers-listed calls c);
+    whole = history calls .sound .whole;
+    names-exact = names-exact calls;
+    names-joined = names-joined calls;
+    play-more = λ more. play-more calls more w;
+    log-more = λ more. log-more calls more w;
+  }

@@ -1,34 +1,46 @@
 -- What an accepted append to a sound store leaves alone. Assumes nothing.
-use Prim.Native.Nat.{ℕ, _+_, _-_, _≤_, _<_}
+use Prim.Native.Nat.{ℕ, _+_, _*_, _≤_, _<_}
 use mathlib.Core.Path.{_≡_, refl, sym, ap, _∙_, subst}
 use mathlib.Core.Logic.{_⊎_, inl, inr}
 use mathlib.Core.Bool.{Bool, true, false, false≢true}
 use mathlib.Core.Option.{Option, none, some}
 use mathlib.Core.List.{List}
+use native.Mathlib.Decide.{decLe}
 use native.Mathlib.Omega.{arith}
 use lib.Dec.{leb, ltb}
-use lib.ListN.{length}
+use lib.ListN.{length, getD}
 use borrow.Author.Tests.{leb-true, leb-false, ltb-true, ltb-false}
-use Rattle.limits.specs.Limits.{pageSize, nameLimit, valueSize, linkSize}
+use Rattle.limits.specs.Limits.{pageSize, nameLimit, recordExtra, valueSize, linkSize}
 use Rattle.spans.specs.Span.{Apart}
 use Rattle.memory_arena.proofs.Laws.{standing-facts}
+use Rattle.murmurhash2.specs.Murmur.{murmurHash2}
+use Rattle.shared_arena_hashmap.specs.Power.{grownLength}
 use Rattle.shared_arena_hashmap.specs.Probe.{valuePlace}
 use Rattle.expull.specs.declared.Header.{Header}
 use Rattle.expull.specs.Header.{blockCount}
 use Rattle.expull.specs.Blocks.{blockPlace, blockLength}
+use Rattle.store.specs.declared.State.{State}
 use Rattle.store.specs.declared.Lookup.{Lookup}
+use Rattle.store.specs.declared.Lookup.the-variants.{At}
 use Rattle.store.specs.declared.Answer.{Answer}
 use Rattle.store.specs.declared.Answer.the-variants.{Absent, Found, Refused}
 use Rattle.store.specs.declared.Outcome.the-variants.{Block, NoSuchBlock}
+use Rattle.store.specs.State.{firstOf}
 use Rattle.store.specs.Look.{onLookup, headerOf, blockAt, findBlockOf}
+use Rattle.store.specs.Append.{grows, grownState, tableGrown}
 use Rattle.store.proofs.Found.{lookup-3}
+use Rattle.store.proofs.Cases.{state-stays, state-grows, table-stays}
 use Rattle.history_lanes.specs.Lane.{usedEnd}
+use Rattle.history_names.specs.Table.{OneBucket}
 use Rattle.history_names.proofs.Lookup.{decide-name, decide-member}
 use Rattle.history.specs.History.{World, isJoined}
-use Rattle.history.specs.Frames.{Kept, ApartFromBlocks, LeavesAlone}
+use Rattle.history.specs.Frames.{keysIn, tableIn, listsEnd, headerIn}
+use Rattle.history.specs.Frames.{Kept, Differs, Within, ApartFromBlocks, InBlocks, LeavesAlone}
 use Rattle.history.specs.Sound.{Ghosts, Stands, Sound}
 use Rattle.history.proofs.Spans.{lane-clear, told-own, told-other}
 use Rattle.history.proofs.Kept.{Leaves, Took, list-stands, list-short}
+use Rattle.history.proofs.Grown.{sound-whole}
+use Rattle.history.proofs.Differs.{byte-kept, within-or-apart, differs-within, differs-blocks}
 use Rattle.history.proofs.Answers.{header-is}
 use Rattle.history.proofs.Told.{Says}
 use Rattle.history.proofs.Readings.{lookup-finds, block-there, block-past, reads-absent}
@@ -130,20 +142,124 @@ module _ {w : World} {G : Ghosts} (S : Sound w G) (name bytes : List ℕ) (w′ 
           told-other m (w .state .«list_arena») (L .header) (L .blocks) bytes m′ (w′ .state .«list_arena») (T .ghosts .header name) (T .ghosts .blocks name)
           (L .list) (G .header j) (G .blocks j) (S .lanes j (B .stands)) (L .list-clear j q (B .stands)) i (B .below)
 
+  lists-unfilled : Kept m m′ (headerIn w′ (T .ghosts .place name) .tail)
+      (headerIn w′ (T .ghosts .place name) .remaining + linkSize)
+  lists-unfilled = rw (header-is (T .sound) name (T .new)) (L .list .unfilled)
+
+  lengths-kept : (length (tableIn w′) ≡ length (tableIn w)) × (length (keysIn w′) ≡ length (keysIn w))
+      × (length m′ ≡ length m)
+  lengths-kept =
+      let W = sound-whole S in
+      let W′ = sound-whole (T .sound) in (
+        sym (W′ .words-is) ∙ L .remembers .1 ∙ W .words-is,
+        sym (W′ .key-bytes-is) ∙ L .remembers .2 ∙ W .key-bytes-is,
+        sym (W′ .list-bytes-is) ∙ L .remembers .3 ∙ W .list-bytes-is,
+      )
+
   -- ---- all of it
 
-  pub leaves-alone : (o : Option (List ℕ)) → Says w G name o → LeavesAlone w w′ name o (T .ghosts .place name)
-  leaves-alone o s = record {
-    placed = lookup-finds (T .sound) name (T .new);
-    keys-standing = λ e q n d.
-        L .keys-standing (joined-stands o s e) q n
-        (subst (λ (at : ℕ). Apart (valuePlace (w .memory .keys) at) valueSize q n) (L .place-kept (joined-stands o s e)) d);
-    keys-new = λ e q n d. L .keys-new (joined-new o s e) q n d;
-    lists-standing = λ e q n u d. lists-standing (joined-stands o s e) q n u d;
-    lists-new = λ e q n u. lists-new (joined-new o s e) q n u;
-    lists-outside = lists-outside;
-    lists-filled = lists-filled;
-    table-standing = λ e b. L .table-standing (joined-stands o s e) b;
-    table-new = λ e b. L .table-new (joined-new o s e) b;
-    table-grown = L .table-grown;
-  }
+  -- what stays, by what the name had come to
+  module _ (o : Option (List ℕ)) (s : Says w G name o) where
+    abbrev at : ℕ
+    at = T .ghosts .place name
+
+    keys-standing : isJoined o ≡ true → (q n : ℕ) → Apart (valuePlace (keysIn w) at) valueSize q n
+        → Kept (keysIn w) (keysIn w′) q n
+    keys-standing e q n d =
+        let M = joined-stands o s e in
+        L .keys-standing M q n
+        (subst (λ (at : ℕ). Apart (valuePlace (keysIn w) at) valueSize q n) (L .place-kept M) d)
+
+    keys-new : isJoined o ≡ false → (q n : ℕ) → Apart at (length name + recordExtra) q n
+        → Kept (keysIn w) (keysIn w′) q n
+    keys-new e q n d = L .keys-new (joined-new o s e) q n d
+
+    abbrev Entered : State → List ℕ → Type 0
+    Entered st t = OneBucket (firstOf st) (st .buckets) at (murmurHash2 (w .state .seed) name) t (tableIn w′)
+
+    table-new : isJoined o ≡ false → grows (w .state) ≡ false → Entered (w .state) (tableIn w)
+    table-new e g =
+        rw (state-stays (w .state) g, table-stays (w .state) (tableIn w) g) at (L .table-new (joined-new o s e))
+
+    table-grown-new : isJoined o ≡ false → grows (w .state) ≡ true
+        → Entered (grownState (w .state)) (tableGrown (w .state) (tableIn w))
+    table-grown-new e g = rw (state-grows (w .state) g) at (L .table-new (joined-new o s e))
+
+    -- ---- so where a byte or a word differs
+
+    keys-differ : (q : ℕ) → Differs (keysIn w) (keysIn w′) q → (b : Bool) → isJoined o ≡ b
+        → ((isJoined o ≡ true) × Within (valuePlace (keysIn w) at) valueSize q)
+        ⊎ ((isJoined o ≡ false) × Within at (length name + recordExtra) q)
+    keys-differ q d true e =
+        inl (e, differs-within (keysIn w) (keysIn w′) (valuePlace (keysIn w) at) valueSize q (keys-standing e q 1) d)
+    keys-differ q d false e =
+        inr (e, differs-within (keysIn w) (keysIn w′) at (length name + recordExtra) q (keys-new e q 1) d)
+
+    lists-differ : (q : ℕ) → Differs m m′ q → (b : Bool) → isJoined o ≡ b → Dec (listsEnd w ≤ q)
+        → ((isJoined o ≡ true) × Within (headerIn w at .tail) (headerIn w at .remaining + linkSize) q)
+        ⊎ ((listsEnd w ≤ q) × InBlocks m′ (headerIn w′ at) q)
+    lists-differ q d b e (yes u) = inr (u, differs-blocks m′ (headerIn w′ at) q m (lists-outside q 1) d)
+    lists-differ q d true e (no u) =
+        inl (
+          e,
+          differs-within m m′ (headerIn w at .tail) (headerIn w at .remaining + linkSize) q
+              (lists-standing (joined-stands o s e) q 1 (omega arith)) d,
+        )
+    lists-differ q d false e (no u) = absurd (d (byte-kept m m′ q (lists-new (joined-new o s e) q 1 (omega arith))))
+
+    table-differ : (q : ℕ) → Differs (tableIn w) (tableIn w′) q → (b : Bool) → isJoined o ≡ b → (c : Bool)
+        → grows (w .state) ≡ c
+        → ((n : isJoined o ≡ false) × (g : grows (w .state) ≡ false)
+        × Within (2 * (firstOf (w .state) + table-new n g .bucket)) 2 q)
+        ⊎ ((grows (w .state) ≡ true)
+        × Within (2 * firstOf (grownState (w .state))) (2 * grownLength (w .state .buckets)) q)
+    table-differ q d b e true g = inr (g, inside (within-or-apart (2 * first) (2 * l) q))
+      where
+        first : ℕ
+        first = firstOf (grownState (w .state))
+
+        l : ℕ
+        l = grownLength (w .state .buckets)
+
+        inside : Within (2 * first) (2 * l) q ⊎ Apart (2 * first) (2 * l) q 1 → Within (2 * first) (2 * l) q
+        inside (inl x) = x
+        inside (inr (inl x)) = absurd (d (L .table-grown g q (inr (omega arith))))
+        inside (inr (inr x)) = absurd (d (L .table-grown g q (inl (omega arith))))
+    table-differ q d true e false g =
+        absurd (d (ap (λ (t : List ℕ). getD t q 0) (L .table-standing (joined-stands o s e) g)))
+    table-differ q d false e false g = inl (e, g, inside (within-or-apart (2 * b) 2 q))
+      where
+        b : ℕ
+        b = firstOf (w .state) + table-new e g .bucket
+
+        inside : Within (2 * b) 2 q ⊎ Apart (2 * b) 2 q 1 → Within (2 * b) 2 q
+        inside (inl x) = x
+        inside (inr (inl x)) = absurd (d (table-new e g .others q (λ z. omega arith) (λ z. omega arith)))
+        inside (inr (inr x)) = absurd (d (table-new e g .others q (λ z. omega arith) (λ z. omega arith)))
+
+    pub leaves-alone : LeavesAlone w w′ name o at
+    leaves-alone = record {
+      placed = lookup-finds (T .sound) name (T .new);
+      stood-there = λ e.
+          let M = joined-stands o s e in
+          lookup-finds S name M ∙ ap At (sym (L .place-kept M));
+      keys-room = λ e. L .keys-room (joined-new o s e);
+      keys-above = λ e. L .keys-above (joined-new o s e);
+      keys-used = λ e. L .keys-used (joined-stands o s e);
+      keys-standing = keys-standing;
+      keys-new = keys-new;
+      lists-standing = λ e q n u d. lists-standing (joined-stands o s e) q n u d;
+      lists-new = λ e q n u. lists-new (joined-new o s e) q n u;
+      lists-outside = lists-outside;
+      lists-unfilled = lists-unfilled;
+      lists-filled = lists-filled;
+      table-standing = λ e b. L .table-standing (joined-stands o s e) b;
+      table-new = table-new;
+      table-grown = L .table-grown;
+      table-grown-new = table-grown-new;
+      seed-kept = L .remembers .0;
+      lengths-kept = lengths-kept;
+      keys-differ = λ q d. keys-differ q d (isJoined o) refl;
+      lists-differ = λ q d. lists-differ q d (isJoined o) refl (decLe (listsEnd w) q);
+      table-differ = λ q d. table-differ q d (isJoined o) refl (grows (w .state)) refl;
+    }

@@ -3,7 +3,7 @@
 use Prim.Native.Nat.{ℕ, suc, _+_, _-_, _≤_}
 use mathlib.Core.Path.{_≡_, refl, sym, _∙_, subst}
 use mathlib.Core.Logic.{_⊎_, inl, inr, ⊎-elim}
-use mathlib.Core.Bool.{true, false, cond}
+use mathlib.Core.Bool.{Bool, true, false, cond}
 use mathlib.Core.Option.{some}
 use mathlib.Core.List.{List, [], _++_}
 use native.Mathlib.Nat.{le-refl}
@@ -28,22 +28,23 @@ use Rattle.expull.specs.declared.Header.{Header}
 use Rattle.expull.specs.Header.{fresh, headerBytes}
 use Rattle.expull.specs.Append.{Writing, writing, appended}
 use Rattle.expull.proofs.Laws.Header.{header-length}
+use Rattle.store.specs.declared.State.{State}
 use Rattle.store.specs.State.{firstOf}
 use Rattle.store.specs.Look.{lent, checked}
 use Rattle.store.specs.Append.{isCrowded, grows, grownState, stateGrown, tableGrown, movedState, recordBytes}
 use Rattle.store.proofs.Cases.{table-stays}
-use Rattle.history_lanes.specs.Lane.{content, TipClear, Lane, After}
+use Rattle.history_lanes.specs.Lane.{content, TipClear, usedEnd, Lane, After}
 use Rattle.history_lanes.proofs.Blocks.{apart-within}
 use Rattle.history_lanes.proofs.Moved.{lane-moved}
 use Rattle.history_lanes.proofs.Append.{lane-fresh, lane-appended}
-use Rattle.history_names.specs.Table.{Names, Member, Table, Outside}
+use Rattle.history_names.specs.Table.{Names, Member, Table, Outside, OneBucket}
 use Rattle.history_names.proofs.Lookup.{decide-name}
 use Rattle.history_names.proofs.Enter.{enters}
 use Rattle.history_names.proofs.Grow.{table-readdressed}
 use Rattle.history.specs.History.{World}
 use Rattle.history.specs.Sound.{Record, Ghosts, Stands, RecordsApart, BlocksApart, Sound, bytesOf}
-use Rattle.history.specs.Frames.{OneBucket, Kept}
-use Rattle.history.proofs.Words.{grown-words, grown-entered-words, stays-entered-words}
+use Rattle.history.specs.Frames.{Kept}
+use Rattle.history.proofs.Words.{grown-words, grown-entered-words}
 use Rattle.history.proofs.Apart.{apart-none, apart-turned, apart-tip, apart-after}
 use Rattle.history.proofs.Records.{record-place, record-kept, record-up, record-revalued, length-record, record-written}
 use Rattle.history.proofs.Grown.{sound-whole, Grew, grew}
@@ -61,7 +62,22 @@ updated-other f k x j e = rw (equal-not j k e)
 
 -- ---- what an accepted append leaves alone
 
+-- what the state remembers of creation: the seed and the three lent lengths
+abbrev pub Remembers : State → State → Type 0
+Remembers st st′ =
+    (st′ .seed ≡ st .seed) × (st′ .words ≡ st .words) × (st′ .«key_bytes» ≡ st .«key_bytes»)
+    × (st′ .«list_bytes» ≡ st .«list_bytes»)
+
+grown-remembers : (st : State) → Remembers st (stateGrown st)
+unfolding stateGrown
+grown-remembers st = go (grows st)
+  where
+    go : (b : Bool) → Remembers st (cond b (grownState st) st)
+    go true = (refl, refl, refl, refl)
+    go false = (refl, refl, refl, refl)
+
 pub record Leaves (w : World) (G : Ghosts) (name bytes : List ℕ) (w′ : World) (G′ : Ghosts) : Type 0 where
+  pub remembers : Remembers (w .state) (w′ .state)
   -- what the list was before, and what the append did to it
   pub header : Header
   pub blocks : List ℕ
@@ -71,11 +87,19 @@ pub record Leaves (w : World) (G : Ghosts) (name bytes : List ℕ) (w′ : World
   pub list-clear : (j : List ℕ) → (j ≡ name → ⊥) → Stands G j → TipClear blocks (G .blocks j)
   -- the key pages
   pub place-kept : Stands G name → G′ .place name ≡ G .place name
+  pub keys-used : Stands G name → w′ .state .«key_arena» ≡ w .state .«key_arena»
+  pub keys-room : (Stands G name → ⊥)
+      → roomFor pageSize (w .state .«key_arena») (length (w .memory .keys)) (length name + recordExtra)
+      ≡ At (G′ .place name) (w′ .state .«key_arena»)
+  pub keys-above : (Stands G name → ⊥) → (usedEnd (w .state .«key_arena») ≤ G′ .place name)
+      × (usedEnd (w′ .state .«key_arena») ≡ G′ .place name + (length name + recordExtra))
   pub keys-standing : Stands G name → (q n : ℕ) → Apart (valuePlace (w .memory .keys) (G .place name)) valueSize q n → Kept (w .memory .keys) (w′ .memory .keys) q n
   pub keys-new : (Stands G name → ⊥) → (q n : ℕ) → Apart (G′ .place name) (length name + recordExtra) q n → Kept (w .memory .keys) (w′ .memory .keys) q n
   -- the table
   pub table-standing : Stands G name → grows (w .state) ≡ false → w′ .memory .table ≡ w .memory .table
-  pub table-new : (Stands G name → ⊥) → grows (w .state) ≡ false → OneBucket (firstOf (w .state)) (w .state .buckets) (w .memory .table) (w′ .memory .table)
+  pub table-new : (Stands G name → ⊥)
+      → OneBucket (firstOf (stateGrown (w .state))) (stateGrown (w .state) .buckets) (G′ .place name)
+      (murmurHash2 (w .state .seed) name) (tableGrown (w .state) (w .memory .table)) (w′ .memory .table)
   pub table-grown : grows (w .state) ≡ true → (q : ℕ) → Outside (firstOf (grownState (w .state))) (grownLength (w .state .buckets)) q
       → getD (w′ .memory .table) q 0 ≡ getD (w .memory .table) q 0
 
@@ -204,6 +228,7 @@ module _ {w : World} {G : Ghosts} (S : Sound w G) where
 
     standing-leaves : (g : Names) → Leaves w G name bytes standing-left (standing-ghosts g)
     standing-leaves g = record {
+      remembers = grown-remembers (w .state);
       header = G .header name;
       blocks = G .blocks name;
       list = rw (updated-same (G .header) name (v .header) name refl, updated-same (G .blocks) name (standing-after .0) name refl) (standing-after .1);
@@ -214,8 +239,11 @@ module _ {w : World} {G : Ghosts} (S : Sound w G) where
       keys-standing = λ m q n d.
           read-apart q n (valuePlace (w .memory .keys) (G .place name)) (headerBytes (v .header)) (w .memory .keys) (rw header-length d);
       keys-new = λ f q n d. absurd (f M);
+      keys-used = λ m. refl;
+      keys-room = λ f. absurd (f M);
+      keys-above = λ f. absurd (f M);
       table-standing = λ m b. table-stays (w .state) (w .memory .table) b;
-      table-new = λ f b. absurd (f M);
+      table-new = λ f. absurd (f M);
       table-grown = grown-words (w .state) (w .memory .table);
     }
 
@@ -311,8 +339,17 @@ module _ {w : World} {G : Ghosts} (S : Sound w G) where
     new-apart g j n (inr x) (inr y) f =
         rw (updated-other (G .place) name at j (other j x), updated-other (G .place) name at n (other n y)) (S .records-apart j n x y f)
 
-    new-leaves : (g : Names) → Leaves w G name bytes new-left (new-ghosts g)
-    new-leaves g = record {
+    -- its bucket, in the table as it stands after any growth
+    abbrev EnteredAt : ℕ → Type 0
+    EnteredAt x =
+        let hash : ℕ = murmurHash2 (w .state .seed) name in
+        let t : List ℕ = tableGrown (w .state) (w .memory .table) in
+        OneBucket (firstOf (stateGrown (w .state))) (stateGrown (w .state) .buckets) x hash t
+        (entered (firstOf (stateGrown (w .state))) (stateGrown (w .state) .buckets) x hash t)
+
+    new-leaves : (g : Names) → EnteredAt at → Leaves w G name bytes new-left (new-ghosts g)
+    new-leaves g one = record {
+      remembers = grown-remembers (w .state);
       header = fresh;
       blocks = [];
       list = rw (updated-same (G .header) name (v .header) name refl, updated-same (G .blocks) name (new-after .0) name refl) (new-after .1);
@@ -324,8 +361,11 @@ module _ {w : World} {G : Ghosts} (S : Sound w G) where
       keys-new = λ f q n d.
           read-apart q n at (recordBytes name (v .header)) (w .memory .keys)
           (rw (length-record name (v .header)) (rw (updated-same (G .place) name at name refl) at d));
+      keys-used = λ m. absurd (M m);
+      keys-room = λ f. rw (updated-same (G .place) name at name refl) r;
+      keys-above = λ f. rw (updated-same (G .place) name at name refl) (room .above, room .end);
       table-standing = λ m b. absurd (M m);
-      table-new = λ f b. stays-entered-words (w .state) (w .memory .table) at (murmurHash2 (w .state .seed) name) b (S .table .some-bucket);
+      table-new = λ f. rw (updated-same (G .place) name at name refl) one;
       table-grown = grown-entered-words (w .state) (w .memory .table) at (murmurHash2 (w .state .seed) name);
     }
 
@@ -361,7 +401,7 @@ module _ {w : World} {G : Ghosts} (S : Sound w G) where
           others = L .others;
           stood = λ m. absurd (M m);
           fresh-one = λ f. (L .own, omega arith);
-          leaves = new-leaves (N .0);
+          leaves = new-leaves (N .0) (subst EnteredAt a (N .1 .one));
         }
 
     pub took-new : checked (new-left .state) (new-left .memory) ≡ true → Took w G name bytes new-left

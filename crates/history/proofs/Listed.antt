@@ -13,7 +13,8 @@ use Rattle.store.specs.declared.Listed.{Listed}
 use Rattle.store.specs.declared.Listed.the-variants.{Bucket, NoMore, Stopped}
 use Rattle.store.specs.declared.Counted.the-variants.{Keys}
 use Rattle.store.specs.State.{firstOf}
-use Rattle.store.specs.Look.{onNext, nextOf}
+use Rattle.store.specs.declared.Lookup.the-variants.{At}
+use Rattle.store.specs.Look.{lookupOf, onNext, nextOf}
 use Rattle.store.proofs.Found.{next-on, next-good, next-none, count-keys}
 use Rattle.history_names.specs.Listing.{inOrder, times, listedNext, listing}
 use Rattle.history_names.proofs.Listing.{order-length, lists-next, lists-once, lists-only, lists-names}
@@ -22,6 +23,7 @@ use Rattle.history.specs.Promises.{listedOn, listedFrom, listedNames, Ha
 use Rattle.history.specs.Sound.{Ghosts, Sound}
 use Rattle.history.proofs.Answers.{sound-records}
 use Rattle.history.proofs.Told.{Counts}
+use Rattle.history.proofs.Readings.{lookup-finds}
 
 module _ {w : World} {G : Ghosts} (S : Sound w G) where
   -- the next bucket as the table has it
@@ -34,6 +36,7 @@ module _ {w : World} {G : Ghosts} (S : Sound w G) where
     place : ℕ
     met : next i ≡ Occupied bucket place
     said : nextOf (w .state) (w .memory) i ≡ Bucket bucket place
+    found : lookupOf (w .state) (w .memory) (keyAt (w .memory .keys) place) ≡ At place
 
   meets : (i : ℕ) → Meets i ⊎ ((next i ≡ NoBucket) × (nextOf (w .state) (w .memory) i ≡ NoMore))
   meets i =
@@ -45,6 +48,8 @@ module _ {w : World} {G : Ghosts} (S : Sound w G) where
         said =
             next-on (w .state) (w .memory) i (S .whole) ∙ ap (λ (x : Next). onNext x (w .state .«key_arena») (w .memory .keys)) (r .3)
             ∙ next-good (w .state .«key_arena») (w .memory .keys) (r .0) (G .place (r .1)) (sound-records S (r .1) (r .0, r .2 .named) .0);
+        found = ap (lookupOf (w .state) (w .memory)) (sound-records S (r .1) (r .0, r .2 .named) .1)
+            ∙ lookup-finds S (r .1) (r .0, r .2 .named);
       }))
       (λ r. inr (
         r .1,
@@ -82,6 +87,21 @@ module _ {w : World} {G : Ghosts} (S : Sound w G) where
       go (inl r) = let q = r .said in let z : _≡_ {A = ℕ} 0 1 = cc in omega arith
       go (inr r) = let q = r .1 in let z : _≡_ {A = ℕ} 0 1 = cc in omega arith
 
+  there : (i b at : ℕ) → nextOf (w .state) (w .memory) i ≡ Bucket b at
+      → lookupOf (w .state) (w .memory) (keyAt (w .memory .keys) at) ≡ At at
+  there i b at e = go (meets i)
+    where
+      go : Meets i ⊎ ((next i ≡ NoBucket) × (nextOf (w .state) (w .memory) i ≡ NoMore))
+          → lookupOf (w .state) (w .memory) (keyAt (w .memory .keys) at) ≡ At at
+      go (inl r) =
+          let q : Bucket b at ≡ Bucket (r .bucket) (r .place) = sym e ∙ r .said in
+          let p : at ≡ r .place = cc in
+          rw p (r .found)
+      go (inr r) =
+          let q : Bucket b at ≡ NoMore = sym e ∙ r .1 in
+          let z : _≡_ {A = ℕ} 0 1 = cc in
+          absurd (omega arith)
+
   pub has-names : (ns : List (List ℕ)) → Counts w G ns → HasNames w ns
   has-names ns C = record {
     counted = C .many;
@@ -90,5 +110,6 @@ module _ {w : World} {G : Ghosts} (S : Sound w G) where
     listed = ap length names-are ∙ order-length (G .names) ∙ sym (S .counted) ∙ C .many;
     each-once = λ j m. ap (times j) names-are ∙ lists-once (S .table) j (C .only j m);
     no-other = λ j m. ap (times j) names-are ∙ lists-only (S .table) j (λ o. false≢true (sym m ∙ C .all j o));
+    listed-there = there;
     unstopped = never-stopped;
   }

@@ -1,7 +1,7 @@
 -- What the calls that change nothing answer in a sound store: of a name that stands its bytes, of any other that it is absent. Assumes nothing.
-use Prim.Native.Nat.{ℕ, zero, suc, _+_, _-_, _≤_, _<_}
+use Prim.Native.Nat.{ℕ, zero, suc, _≤_, _<_}
 use mathlib.Core.Path.{_≡_, refl, sym, ap, _∙_, subst}
-use mathlib.Core.Logic.{_⊎_, ⊎-elim}
+use mathlib.Core.Logic.{⊎-elim}
 use mathlib.Core.Bool.{Bool, true, false, cond}
 use mathlib.Core.Option.{Option, none, some}
 use mathlib.Core.List.{List, _++_}
@@ -11,22 +11,25 @@ use lib.Dec.{leb}
 use lib.ListN.{length}
 use borrow.Author.Tests.{le-leb, lt-leb}
 use Rattle.limits.specs.Limits.{nameLimit}
+use Rattle.numbers.proofs.Tests.{both-true}
 use Rattle.spans.specs.Span.{readSpan, overwrite}
 use Rattle.shared_arena_hashmap.specs.declared.Met.the-variants.{Empty, Standing, Lap}
 use Rattle.expull.specs.declared.Header.{Header}
 use Rattle.expull.specs.declared.Block.{Block as Found·Block}
 use Rattle.expull.specs.declared.Block.the-variants.{NoBlock}
 use Rattle.expull.specs.Header.{laneLength, blockCount}
-use Rattle.expull.specs.Blocks.{laneBytes, blockPlace, blockLength, blockOf}
+use Rattle.expull.specs.Blocks.{laneBytes, goodBlocks, blockPlace, blockLength, blockOf}
 use Rattle.store.specs.declared.State.{State}
 use Rattle.store.specs.declared.Lookup.{Lookup}
 use Rattle.store.specs.declared.Lookup.the-variants.{At, Missing}
 use Rattle.store.specs.declared.Answer.the-variants.{Found, Refused}
 use Rattle.store.specs.declared.Outcome.the-variants.{Length, Reading, Block, NoSuchBlock}
-use Rattle.store.specs.Look.{Lent, lookupOf, onLookup, onLookupRead, headerOf, lengthAt, lengthOf, reading, readAt, readOf, onBlock, blockAt, findBlockOf}
+use Rattle.store.specs.Look.{Lent, lookupOf, onLookup, onLookupRead, headerOf, lengthAt, lengthOf, reading, readAt}
+use Rattle.store.specs.Look.{readOf, onBlock, blockAt, findBlockOf, blocksSound}
 use Rattle.store.proofs.Found.{lookup-met, Headed, length-found, length-at, read-on, read-at, block-found, block-at, show-part}
 use Rattle.history_lanes.specs.Lane.{Lane, pieces}
-use Rattle.history_lanes.proofs.Readings.{lane-blocks, lane-reads, lane-length, lane-block, lane-no-block, lane-pieces}
+use Rattle.history_lanes.proofs.Readings.{lane-blocks, lane-reads, lane-length, lane-block, lane-no-block}
+use Rattle.history_lanes.proofs.Readings.{lane-pieces, lane-piece}
 use Rattle.history.specs.History.{World}
 use Rattle.history.specs.Promises.{shownOf, shownBlocks, blocksFor, ReadsBack, ReadsAbsent, ReadsAs}
 use Rattle.history.specs.Sound.{Ghosts, Stands, Sound, bytesOf}
@@ -91,16 +94,25 @@ module _ {w : World} {G : Ghosts} (S : Sound w G) (name : List ℕ) where
     pub block-past : (i : ℕ) → blockCount h ≤ i → findBlockOf st m name i ≡ Found NoSuchBlock
     block-past i l = block-said i NoBlock (lane-no-block (m .lists) (st .«list_arena») h i l)
 
+    shown-block : (k : ℕ) → k < blockCount h
+        → shownOf w (findBlockOf st m name k)
+        ≡ readSpan (blockPlace (m .lists) (h .head) k) (blockLength h k) (m .lists)
+    shown-block k l =
+        ap (shownOf w) (block-there k l)
+        ∙ show-part st m (blockPlace (m .lists) (h .head) k) (blockLength h k) (S .whole)
+        (lane-block (m .lists) (st .«list_arena») h (G .blocks name) lane k l .good)
+
     shown : (k : ℕ) → k ≤ blockCount h → shownBlocks w name k ≡ pieces (m .lists) h k
     unfolding shownBlocks
     shown zero l = refl
-    shown (suc k) l = λ i. shown k (omega arith) i ++ one i
-      where
-        one : shownOf w (findBlockOf st m name k) ≡ readSpan (blockPlace (m .lists) (h .head) k) (blockLength h k) (m .lists)
-        one =
-            ap (shownOf w) (block-there k l)
-            ∙ show-part st m (blockPlace (m .lists) (h .head) k) (blockLength h k) (S .whole)
-            (lane-block (m .lists) (st .«list_arena») h (G .blocks name) lane k l .good)
+    shown (suc k) l = λ i. shown k (omega arith) i ++ shown-block k l i
+
+    blocks-good : blocksSound st m at ≡ true
+    unfolding blocksSound
+    blocks-good =
+        both-true _ _ (header-fine S name M)
+        (ap (λ (h : Header). goodBlocks (st .«list_arena») (m .lists) (h .head) (blockCount h)) (header-is S name M)
+        ∙ lane-blocks (m .lists) (st .«list_arena») h (G .blocks name) lane (blockCount h) (le-refl (blockCount h)))
 
     count : blockCount h ≡ blocksFor (length bs)
     count = lane-blocks-for (m .lists) (st .«list_arena») h (G .blocks name) lane
@@ -117,7 +129,12 @@ module _ {w : World} {G : Ghosts} (S : Sound w G) (name : List ℕ) where
       blocks =
           ap (shownBlocks w name) (sym count) ∙ shown (blockCount h) (le-refl (blockCount h))
           ∙ lane-pieces (m .lists) (st .«list_arena») h (G .blocks name) lane;
+      piece = λ i l.
+          shown-block i (omega (arith, count))
+          ∙ lane-piece (m .lists) (st .«list_arena») h (G .blocks name) lane i (omega (arith, count));
       no-block = λ i l. block-past i (omega (arith, count));
+      blocks-good = blocks-good;
+      blocks-hold = ap (laneBytes (m .lists)) (header-is S name M) ∙ bytes;
       length-rule = long-there;
       blocks-few = rw (header-is S name M) (omega (arith, fits S name M .few));
       room-bound = lane-room-for (m .lists) (st .«list_arena») h (G .blocks name) lane;

@@ -16,9 +16,9 @@ use Rattle.expull.proofs.Laws.Header.{size-pos, full-more}
 use Rattle.expull.proofs.Laws.Blocks.{full-within}
 use Rattle.store.specs.declared.State.{State}
 use Rattle.store.specs.Look.{Lent}
-use Rattle.history_lanes.specs.Lane.{content, Lane, blocksWide}
+use Rattle.history_lanes.specs.Lane.{content, Lane}
 use Rattle.history_lanes.proofs.Readings.{content-length, lane-count}
-use Rattle.history_lanes.proofs.Room.{lane-room}
+use Rattle.history_lanes.proofs.Room.{wide-sum, lane-room}
 use Rattle.history.specs.Due.{oneMore, shapeOf, dueBlocks, dueList}
 use Rattle.history.specs.Promises.{blocksFor}
 
@@ -126,8 +126,13 @@ module _ (m : List ℕ) (a : Arena) (h : Header) (ks : List ℕ) (L : Lane m a h
 
   -- what the blocks take, by their number
   pub lane-room-for : fullBytes (blocksFor n) + linkSize * blocksFor n ≤ 2 * n + 6 + 4 * blocksFor n
-  lane-room-for = omega (arith, lane-room m a h ks L, wide ks, same .0, lane-count m a h ks L, lane-blocks-for, ap fullBytes (sym lane-blocks-for ∙ lane-count m a h ks L))
-    where
-      wide : (ks : List ℕ) → blocksWide ks ≡ fullBytes (length ks) + linkSize * length ks
-      wide [] = omega (arith, full-none)
-      wide (x ∷ ks) = omega (arith, wide ks, full-more (length ks))
+  lane-room-for =
+      omega (
+        arith,
+        lane-room m a h ks L,
+        wide-sum ks,
+        same .0,
+        lane-count m a h ks L,
+        lane-blocks-for,
+        ap fullBytes (sym lane-blocks-for ∙ lane-count m a h ks L),
+      )

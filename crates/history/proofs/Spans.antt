@@ -1,5 +1,5 @@
 -- The blocks of a lane by their index from the head, as the calls tell them, and spans beside them. Assumes nothing.
-use Prim.Native.Nat.{ℕ, suc, _+_, _-_, _≤_, _<_}
+use Prim.Native.Nat.{ℕ, suc, _+_, _≤_, _<_}
 use mathlib.Core.Path.{_≡_, refl, sym, ap}
 use mathlib.Core.Logic.{inr}
 use mathlib.Core.Bool.{Bool, true, false}
@@ -22,7 +22,7 @@ use Rattle.history_lanes.proofs.Blocks.{apart-within}
 use Rattle.history_lanes.proofs.Readings.{lane-block, place-newest}
 
 -- what holds of every block: of its place and of what it takes
-abbrev Every : (ℕ → ℕ → Type 0) → List ℕ → Type 0
+abbrev pub Every : (ℕ → ℕ → Type 0) → List ℕ → Type 0
 Every P [] = Unit {0}
 Every P (x ∷ ks) = P x (wideOn ks) × Every P ks
 
@@ -30,19 +30,20 @@ every-clear : (q n : ℕ) (ks : List ℕ) → Every (Apart q n) ks → Clear q n
 every-clear q n [] e = tt
 every-clear q n (x ∷ ks) e = (e .0, every-clear q n ks (e .1))
 
-clear-every : (q n : ℕ) (ks : List ℕ) → Clear q n ks → Every (Apart q n) ks
+pub clear-every : (q n : ℕ) (ks : List ℕ) → Clear q n ks → Every (Apart q n) ks
 clear-every q n [] c = tt
 clear-every q n (x ∷ ks) c = (c .0, clear-every q n ks (c .1))
 
-below-every : (u : ℕ) (ks : List ℕ) → Below u ks → Every (λ x w. x + w ≤ u) ks
+pub below-every : (u : ℕ) (ks : List ℕ) → Below u ks → Every (λ x w. x + w ≤ u) ks
 below-every u [] b = tt
 below-every u (x ∷ ks) b = (b .0, below-every u ks (b .1))
 
 module _ (P : ℕ → ℕ → Type 0) (m : List ℕ) (hd : ℕ) where
-  abbrev AtIndex : ℕ → Type 0
+  abbrev pub AtIndex : ℕ → Type 0
   AtIndex i = P (blockPlace m hd i) (blockSize (i + 3) + linkSize)
 
-  index-every : (x : ℕ) (ks : List ℕ) → Links m (x ∷ ks) → hd ≡ oldest x ks → Every P (x ∷ ks) → (i : ℕ) → i ≤ length ks → AtIndex i
+  pub index-every : (x : ℕ) (ks : List ℕ) → Links m (x ∷ ks) → hd ≡ oldest x ks → Every P (x ∷ ks)
+      → (i : ℕ) → i ≤ length ks → AtIndex i
   index-every x [] l e a i h = let z : i ≡ length {A = ℕ} [] = omega arith in rw (z, place-newest m hd x [] l e) (a .0)
   index-every x (y ∷ ks) l e a i h = go (eqb i (length (y ∷ ks))) refl (λ k. index-every y ks (l .1) e (a .1) i k)
     where

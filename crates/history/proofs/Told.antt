@@ -2,21 +2,23 @@
 -- names those of accepted appends. Assumes nothing.
 use Prim.Native.Nat.{ℕ, suc, _+_}
 use mathlib.Core.Path.{_≡_, refl, sym, ap, _∙_, subst}
-use mathlib.Core.Logic.{_⊎_, inl, inr, ⊎-elim}
-use mathlib.Core.Bool.{Bool, true, false, cond, _&&_, not, false≢true}
+use mathlib.Core.Logic.{inl, inr, ⊎-elim}
+use mathlib.Core.Bool.{Bool, true, false, cond, false≢true}
 use mathlib.Core.Option.{Option, none, some}
 use mathlib.Core.List.{List, [], _∷_, _++_}
 use native.Mathlib.Omega.{arith}
 use lib.ListN.{length, length-append}
 use Rattle.fastcmp.specs.Equal.{equalBytes}
 use Rattle.fastcmp.proofs.Laws.{equal-same, equal-not, equal-true}
-use Rattle.numbers.proofs.Tests.{right-false}
 use Rattle.store.specs.declared.Appended.the-variants.{Accepted}
 use Rattle.store.specs.Append.{Out, out, declined}
 use Rattle.history_names.specs.Listing.{times}
 use Rattle.history_names.proofs.Lookup.{decide-name}
-use Rattle.history.specs.History.{World, Call, appends, looksUp, asksLength, reads, findsBlock, showsBlock, listsFrom, countsKeys, appendIn, isAccepted, left, after, play, joinedOn, joinedBy, joinedFrom, among, namesBy, namesFrom}
+use Rattle.history.specs.History.{World, Call, appends, looksUp, asksLength, reads, findsBlock, showsBlock}
+use Rattle.history.specs.History.{listsFrom, countsKeys, appendIn, isAccepted, left, after, play}
+use Rattle.history.specs.History.{Entry, entry, logged, logOf, joinedOn, joinedIn, among, withName, namesIn}
 use Rattle.history.specs.Sound.{Ghosts, Stands, Sound, bytesOf}
+use Rattle.history.proofs.Log.{joined-more, names-more}
 use Rattle.history.proofs.Kept.{Took}
 use Rattle.history.proofs.Answers.{Answers, answers-any}
 
@@ -75,21 +77,19 @@ pub record Counts (w : World) (G : Ghosts) (ns : List (List ℕ)) : Type 0 where
 
 -- ---- an append
 
+-- what it leaves: a sound store, in which stands what had stood and what it adds to the log
 record Step (w : World) (G : Ghosts) (name bytes : List ℕ) (o : Out) : Type 0 where
   ghosts : Ghosts
   sound : Sound (left o) ghosts
   says : (j : List ℕ) (x : Option (List ℕ)) → Says w G j x
-      → Says (left o) ghosts j (cond (equalBytes j name && isAccepted (o .answer)) (joinedOn x bytes) x)
+      → Says (left o) ghosts j (joinedIn j (cond (isAccepted (o .answer)) (entry name bytes ∷ []) []) x)
   counts : (ns : List (List ℕ)) → Counts w G ns
-      → Counts (left o) ghosts (cond (isAccepted (o .answer) && not (among name ns)) (ns ++ (name ∷ [])) ns)
+      → Counts (left o) ghosts (namesIn (cond (isAccepted (o .answer)) (entry name bytes ∷ []) []) ns)
 
-step-declined : {w : World} {G : Ghosts} → Sound w G → (name bytes : List ℕ) (n : ℕ) → Step w G name bytes (declined (w .state) (w .memory) n)
-step-declined {w} {G} S name bytes n = record {
-  ghosts = G;
-  sound = S;
-  says = λ j x s. rw (right-false (equalBytes j name) false refl) s;
-  counts = λ ns c. c;
-}
+step-declined : {w : World} {G : Ghosts} → Sound w G → (name bytes : List ℕ) (n : ℕ)
+    → Step w G name bytes (declined (w .state) (w .memory) n)
+unfolding joinedIn namesIn
+step-declined {w} {G} S name bytes n = record { ghosts = G; sound = S; says = λ j x s. s; counts = λ ns c. c }
 
 module _ {w : World} {G : Ghosts} (S : Sound w G) (name bytes : List ℕ) (w′ : World) (T : Took w G name bytes w′) where
   own-says : (x : Option (List ℕ)) → Says w G name x → Says w′ (T .ghosts) name (joinedOn x bytes)
@@ -100,19 +100,20 @@ module _ {w : World} {G : Ghosts} (S : Sound w G) (name bytes : List ℕ) (w′ 
   other-says j f none s = λ m. ⊎-elim f s (T .only j m)
   other-says j f (some bs) s = (T .kept j (s .0), T .others j f (s .0) ∙ s .1)
 
-  took-says : (j : List ℕ) (x : Option (List ℕ)) → Says w G j x → Says w′ (T .ghosts) j (cond (equalBytes j name && true) (joinedOn x bytes) x)
+  took-says : (j : List ℕ) (x : Option (List ℕ)) → Says w G j x
+      → Says w′ (T .ghosts) j (cond (equalBytes j name) (joinedOn x bytes) x)
   took-says j x s = go (decide-name j name)
     where
-      go : Dec (j ≡ name) → Says w′ (T .ghosts) j (cond (equalBytes j name && true) (joinedOn x bytes) x)
+      go : Dec (j ≡ name) → Says w′ (T .ghosts) j (cond (equalBytes j name) (joinedOn x bytes) x)
       go (yes e) =
           rw (equal-same j name e)
           (subst (λ (j : List ℕ). Says w G j x → Says w′ (T .ghosts) j (joinedOn x bytes)) (sym e) (own-says x) s)
       go (no e) = rw (equal-not j name e) (other-says j e x s)
 
-  took-counts : (ns : List (List ℕ)) → Counts w G ns → Counts w′ (T .ghosts) (cond (not (among name ns)) (ns ++ (name ∷ [])) ns)
+  took-counts : (ns : List (List ℕ)) → Counts w G ns → Counts w′ (T .ghosts) (withName name ns)
   took-counts ns C = go (among name ns) refl
     where
-      go : (b : Bool) → among name ns ≡ b → Counts w′ (T .ghosts) (cond (not b) (ns ++ (name ∷ [])) ns)
+      go : (b : Bool) → among name ns ≡ b → Counts w′ (T .ghosts) (cond b ns (ns ++ (name ∷ [])))
       go true e = record {
         many = T .stood (C .only name e) .1 ∙ C .many;
         all = λ j m. ⊎-elim (λ (q : j ≡ name). rw q e) (C .all j) (T .only j m);
@@ -146,7 +147,13 @@ module _ {w : World} {G : Ghosts} (S : Sound w G) (name bytes : List ℕ) (w′ 
 
 step-took : {w : World} {G : Ghosts} → Sound w G → (name bytes : List ℕ) (w′ : World) → Took w G name bytes w′
     → Step w G name bytes (out (Accepted (w′ .state)) (w′ .memory))
-step-took S name bytes w′ T = record { ghosts = T .ghosts; sound = T .sound; says = took-says S name bytes w′ T; counts = took-counts S name bytes w′ T }
+unfolding joinedIn namesIn
+step-took S name bytes w′ T = record {
+  ghosts = T .ghosts;
+  sound = T .sound;
+  says = took-says S name bytes w′ T;
+  counts = took-counts S name bytes w′ T;
+}
 
 step : {w : World} {G : Ghosts} → Sound w G → (name bytes : List ℕ) → Step w G name bytes (appendIn w name bytes)
 step {w} {G} S name bytes = go (answers-any S name bytes .0) (answers-any S name bytes .1)
@@ -160,10 +167,11 @@ step {w} {G} S name bytes = go (answers-any S name bytes .0) (answers-any S name
 record CallStep (w : World) (G : Ghosts) (c : Call) : Type 0 where
   ghosts : Ghosts
   sound : Sound (after c w) ghosts
-  says : (j : List ℕ) (x : Option (List ℕ)) → Says w G j x → Says (after c w) ghosts j (joinedBy j c w x)
-  counts : (ns : List (List ℕ)) → Counts w G ns → Counts (after c w) ghosts (namesBy c w ns)
+  says : (j : List ℕ) (x : Option (List ℕ)) → Says w G j x → Says (after c w) ghosts j (joinedIn j (logged c w) x)
+  counts : (ns : List (List ℕ)) → Counts w G ns → Counts (after c w) ghosts (namesIn (logged c w) ns)
 
 call-step : {w : World} {G : Ghosts} → Sound w G → (c : Call) → CallStep w G c
+unfolding joinedIn namesIn
 call-step S (appends name bytes) = let P = step S name bytes in record { ghosts = P .ghosts; sound = P .sound; says = P .says; counts = P .counts }
 call-step {w} {G} S (looksUp name) = record { ghosts = G; sound = S; says = λ j x s. s; counts = λ ns c. c }
 call-step {w} {G} S (asksLength name) = record { ghosts = G; sound = S; says = λ j x s. s; counts = λ ns c. c }
@@ -173,26 +181,25 @@ call-step {w} {G} S (showsBlock at n) = record { ghosts = G; sound = S; says = �
 call-step {w} {G} S (listsFrom i) = record { ghosts = G; sound = S; says = λ j x s. s; counts = λ ns c. c }
 call-step {w} {G} S countsKeys = record { ghosts = G; sound = S; says = λ j x s. s; counts = λ ns c. c }
 
--- every call leaves a sound store
-pub call-sound : {w : World} {G : Ghosts} → Sound w G → (c : Call) → (G′ : Ghosts) × Sound (after c w) G′
-call-sound S c = let P = call-step S c in (P .ghosts, P .sound)
-
 -- what a whole history leaves
 pub record Played (w : World) (G : Ghosts) (calls : List Call) : Type 0 where
   pub ghosts : Ghosts
   pub sound : Sound (play calls w) ghosts
-  pub says : (j : List ℕ) (x : Option (List ℕ)) → Says w G j x → Says (play calls w) ghosts j (joinedFrom j calls w x)
-  pub counts : (ns : List (List ℕ)) → Counts w G ns → Counts (play calls w) ghosts (namesFrom calls w ns)
+  pub says : (j : List ℕ) (x : Option (List ℕ)) → Says w G j x
+      → Says (play calls w) ghosts j (joinedIn j (logOf calls w) x)
+  pub counts : (ns : List (List ℕ)) → Counts w G ns → Counts (play calls w) ghosts (namesIn (logOf calls w) ns)
 
 pub played : {w : World} {G : Ghosts} → Sound w G → (calls : List Call) → Played w G calls
-unfolding play joinedFrom namesFrom
+unfolding play logOf joinedIn namesIn
 played {w} {G} S [] = record { ghosts = G; sound = S; says = λ j x s. s; counts = λ ns c. c }
 played {w} {G} S (c ∷ calls) =
     let P = call-step S c in
     let Q = played (P .sound) calls in
+    let later : List Entry = logOf calls (after c w) in
     record {
       ghosts = Q .ghosts;
       sound = Q .sound;
-      says = λ j x s. Q .says j (joinedBy j c w x) (P .says j x s);
-      counts = λ ns n. Q .counts (namesBy c w ns) (P .counts ns n);
+      says = λ j x s.
+          rw (joined-more j (logged c w) later x) (Q .says j (joinedIn j (logged c w) x) (P .says j x s));
+      counts = λ ns n. rw (names-more (logged c w) later ns) (Q .counts (namesIn (logged c w) ns) (P .counts ns n));
     }

@@ -1,7 +1,7 @@
 -- An append to a lane: bytes written on in the newest block, a block taken, and any number of both. Assumes nothing.
 use Prim.Native.Nat.{ℕ, _+_, _-_, _≤_, _<_}
 use mathlib.Core.Path.{_≡_, refl, sym, ap, _∙_, subst}
-use mathlib.Core.Logic.{inl, inr}
+use mathlib.Core.Logic.{_⊎_, inl, inr}
 use mathlib.Core.Bool.{Bool, true, false, cond}
 use mathlib.Core.Option.{Option, none, some}
 use mathlib.Core.List.{List, [], _∷_, _++_, append-assoc, append-nil}
@@ -23,10 +23,14 @@ use Rattle.memory_arena.specs.Pages.{standing, roomFor}
 use Rattle.memory_arena.proofs.Laws.{place-of, standing-facts, standing-made, Room, room-facts}
 use Rattle.expull.specs.declared.Header.{Header}
 use Rattle.expull.specs.Header.{blockSize, fresh}
-use Rattle.expull.specs.Append.{Writing, writing, nextWide, headWith, linked, headerWith, withBlock, onRoom, takeBlock, ready, moved, filled, andThen, appended}
-use Rattle.history_lanes.specs.Lane.{sizeOn, wideOn, fullContent, content, Links, Below, Paged, Tip, Clear, TipApart, TipClear}
-use Rattle.history_lanes.specs.Lane.{usedEnd, Lane, After, FullKept, FilledKept}
-use Rattle.history_lanes.proofs.Blocks.{size-pos, apart-within, apart-sym, clear-within, clear-above, below-up, full-kept, link-to-kept, links-kept}
+use Rattle.expull.proofs.Laws.Header.{size-pos}
+use Rattle.expull.specs.Append.{Writing, writing, nextWide, headWith, linked, headerWith, withBlock, onRoom}
+use Rattle.expull.specs.Append.{takeBlock, ready, moved, filled, andThen, appended}
+use Rattle.history_lanes.specs.Lane.{sizeOn, wideOn, fullContent, content, Links, Below, Paged, Tip, Clear}
+use Rattle.history_lanes.specs.Lane.{TipApart, TipClear}
+use Rattle.history_lanes.specs.Lane.{usedEnd, Lane, After}
+use Rattle.history_lanes.proofs.Blocks.{apart-within, apart-sym, clear-within, clear-above, below-up}
+use Rattle.history_lanes.proofs.Blocks.{full-kept, link-to-kept, links-kept}
 
 -- a lane between the taking of a block and its first byte: the newest block may be empty
 record Loose (m : List ℕ) (a : Arena) (h : Header) (ks : List ℕ) : Type 0 where
@@ -49,12 +53,24 @@ loosened m a h ks L = record {
   short = L .short;
 }
 
+-- the next byte's place moves on in its block, or lies in a block above the used part
+abbrev OnOrNew : ℕ → Header → Header → Type 0
+OnOrNew u h h′ = ((h .tail ≤ h′ .tail) × (h′ .tail + h′ .remaining ≡ h .tail + h .remaining)) ⊎ (u ≤ h′ .tail)
+
+moves-join : (u u′ : ℕ) (h h′ h″ : Header) → u ≤ u′ → OnOrNew u h h′ → OnOrNew u′ h′ h″ → OnOrNew u h h″
+moves-join u u′ h h′ h″ g (inl x) (inl y) = inl (le-trans (x .0) (y .0), y .1 ∙ x .1)
+moves-join u u′ h h′ h″ g (inr x) (inl y) = inr (le-trans x (y .0))
+moves-join u u′ h h′ h″ g x (inr y) = inr (le-trans g y)
+
 -- what a piece of an append does, besides the lane it leaves
 record Step (m : List ℕ) (a : Arena) (h : Header) (ks bs m′ : List ℕ) (a′ : Arena) (h′ : Header) (ks′ : List ℕ) : Type 0 where
   bytes : content m′ ks′ (h′ .remaining) ≡ content m ks (h .remaining) ++ bs
   rest : (q n : ℕ) → q + n ≤ usedEnd a → Apart (h .tail) (h .remaining + linkSize) q n → readSpan q n m′ ≡ readSpan q n m
   rest-on : (q n : ℕ) → q + n ≤ usedEnd a → Apart (h .tail) (h .remaining + linkSize) q n → Apart (h′ .tail) (h′ .remaining + linkSize) q n
   outside : (q n : ℕ) → Clear q n ks′ → readSpan q n m′ ≡ readSpan q n m
+  unfilled : (q n : ℕ) → h′ .tail ≤ q → q + n ≤ h′ .tail + (h′ .remaining + linkSize) → readSpan q n m′ ≡ readSpan q n m
+  above : (q n : ℕ) → usedEnd a′ ≤ q → readSpan q n m′ ≡ readSpan q n m
+  moves : OnOrNew (usedEnd a) h h′
   tip : (q n : ℕ) → q + n ≤ usedEnd a → TipApart q n ks → TipApart q n ks′
   fwd : (js : List ℕ) → Below (usedEnd a) js → TipClear ks js → TipClear ks′ js
   back : (q n : ℕ) → q + n ≤ usedEnd a → Clear q n ks → Clear q n ks′
@@ -68,6 +84,9 @@ step-none m a h ks = record {
   rest = λ q n u t. refl;
   rest-on = λ q n u t. t;
   outside = λ q n c. refl;
+  unfilled = λ q n l u. refl;
+  above = λ q n l. refl;
+  moves = inl (le-refl (h .tail), refl);
   tip = λ q n u t. t;
   fwd = λ js b t. t;
   back = λ q n u c. c;
@@ -83,6 +102,9 @@ step-join m a h ks bs m′ a′ h′ ks′ cs m″ a″ h″ ks″ A B = record 
   rest = λ q n u t. B .rest q n (le-trans u (A .grows)) (A .rest-on q n u t) ∙ A .rest q n u t;
   rest-on = λ q n u t. B .rest-on q n (le-trans u (A .grows)) (A .rest-on q n u t);
   outside = λ q n c. B .outside q n c ∙ A .outside q n (B .older q n c);
+  unfilled = λ q n l u. B .unfilled q n l u ∙ opened q n l u (B .moves);
+  above = λ q n l. B .above q n l ∙ A .above q n (le-trans (B .grows) l);
+  moves = moves-join (usedEnd a) (usedEnd a′) h h′ h″ (A .grows) (A .moves) (B .moves);
   tip = λ q n u t. B .tip q n (le-trans u (A .grows)) (A .tip q n u t);
   fwd = λ js b t. B .fwd js (below-up (usedEnd a) (usedEnd a′) js (A .grows) b) (A .fwd js b t);
   back = λ q n u c. B .back q n (le-trans u (A .grows)) (A .back q n u c);
@@ -90,6 +112,11 @@ step-join m a h ks bs m′ a′ h′ ks′ cs m″ a″ h″ ks″ A B = record 
   grows = le-trans (A .grows) (B .grows);
   len = B .len ∙ A .len;
 }
+  where
+    opened : (q n : ℕ) → h″ .tail ≤ q → q + n ≤ h″ .tail + (h″ .remaining + linkSize) → OnOrNew (usedEnd a′) h′ h″
+        → readSpan q n m′ ≡ readSpan q n m
+    opened q n l u (inl x) = A .unfilled q n (le-trans (x .0) l) (omega (arith, x .1))
+    opened q n l u (inr x) = A .above q n (le-trans x l)
 
 -- ---- bytes into the newest block
 
@@ -133,6 +160,9 @@ module _ (cs m : List ℕ) (a : Arena) (h : Header) (x : ℕ) (ks : List ℕ) (L
     outside = λ q n c. read-apart q n (h .tail) cs m
         (apart-within x (wideOn ks) q n (h .tail) (length cs) q n (omega (arith, L .tip)) (omega (arith, L .tip)) (le-refl q) (le-refl (q + n))
         (apart-sym q n x (wideOn ks) (c .0)));
+    unfilled = λ q n l u. read-apart q n (h .tail) cs m (inl l);
+    above = λ q n l. read-apart q n (h .tail) cs m (inl (omega (arith, L .tip, L .below .0)));
+    moves = inl (omega arith, omega arith);
     tip = λ q n u t. t;
     fwd = λ js b t. t;
     back = λ q n u c. c;
@@ -214,6 +244,9 @@ take-step m a h [] v a′ L z S = record {
   rest = λ q n u t. refl;
   rest-on = λ q n u t. inr (le-trans u (S .above));
   outside = λ q n c. refl;
+  unfilled = λ q n l u. refl;
+  above = λ q n l. refl;
+  moves = inr (S .above);
   tip = λ q n u t. inr (le-trans u (S .above));
   fwd = λ js b t. clear-above (usedEnd a) v (wideOn []) js (S .above) b;
   back = λ q n u c. (inl (le-trans u (S .above)), tt);
@@ -243,6 +276,11 @@ take-step m a h (x ∷ ks) v a′ L z S =
       outside = λ q n c. read-apart q n (h .tail) (leBytes linkSize v) m
           (apart-within x (wideOn ks) q n (h .tail) (length (leBytes linkSize v)) q n (omega arith) (omega arith) (le-refl q) (le-refl (q + n))
           (apart-sym q n x (wideOn ks) (c .1 .0)));
+      unfilled = λ q n o u.
+          read-apart q n (h .tail) (leBytes linkSize v) m (inl (omega (arith, S .above, L .below .0)));
+      above = λ q n u.
+          read-apart q n (h .tail) (leBytes linkSize v) m (inl (omega (arith, S .above, S .end, L .below .0)));
+      moves = inr (S .above);
       tip = λ q n u t. inr (le-trans u (S .above));
       fwd = λ js b t. clear-above (usedEnd a) v (wideOn (x ∷ ks)) js (S .above) b;
       back = λ q n u c. (inl (le-trans u (S .above)), c);
@@ -402,6 +440,9 @@ lane-appended m a h ks bs w L e =
         span = λ q n u t. S .rest q n u (rest-apart m a h ks L q n u t);
         rest = S .rest;
         outside = S .outside;
+        unfilled =
+            S .unfilled (w .header .tail) (w .header .remaining + linkSize) (le-refl (w .header .tail))
+            (le-refl (w .header .tail + (w .header .remaining + linkSize)));
         tip = S .tip;
         fwd = S .fwd;
         back = S .back;
@@ -410,16 +451,3 @@ lane-appended m a h ks bs w L e =
         len = S .len;
       },
     )
-
-full-under : (m m′ : List ℕ) (u : ℕ) → ((q n : ℕ) → q + n ≤ u → readSpan q n m′ ≡ readSpan q n m) → (ks : List ℕ) → Below u ks → FullKept m m′ ks
-full-under m m′ u k [] b = tt
-full-under m m′ u k (x ∷ ks) b = (k x (sizeOn ks) (omega (arith, b .0)), full-under m m′ u k ks (b .1))
-
--- and every byte that stood in the lane stays where it was
-pub frame-filled : (m : List ℕ) (a : Arena) (h : Header) (ks bs m′ : List ℕ) (a′ : Arena) (h′ : Header) (ks′ : List ℕ)
-    → Lane m a h ks → After m a h ks bs m′ a′ h′ ks′ → FilledKept m m′ ks (h .remaining)
-frame-filled m a h [] bs m′ a′ h′ ks′ L A = tt
-frame-filled m a h (x ∷ ks) bs m′ a′ h′ ks′ L A = (
-  A .rest x (sizeOn ks - h .remaining) (omega (arith, L .below .0)) (inr (omega (arith, L .tip))),
-  full-under m m′ x (λ q n u. A .rest q n (omega (arith, L .below .0)) (inr (omega (arith, L .tip)))) ks (L .tip .3 .0),
-)

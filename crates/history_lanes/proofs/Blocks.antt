@@ -1,11 +1,11 @@
 -- Laws of blocks: sizes, spans that share no place, what a write leaves of blocks that it doesn't touch. Assumes nothing.
-use Prim.Native.Nat.{ℕ, _+_, _^_, _≤_, _<_, min}
+use Prim.Native.Nat.{ℕ, _+_, _^_, _≤_, _<_}
 use mathlib.Core.Path.{_≡_, refl}
 use mathlib.Core.Logic.{inl, inr}
 use mathlib.Core.List.{List, [], _∷_}
 use native.Mathlib.Nat.{le-refl, min-le-right, min-eq-right}
 use native.Mathlib.Omega.{arith}
-use lib.Pow.{pow-pos, pow-mono}
+use lib.Pow.{pow-mono}
 use lib.ListN.{length}
 use Rattle.limits.specs.Limits.{sizeTop, linkSize}
 use Rattle.spans.specs.Span.{overwrite, Apart}
@@ -16,10 +16,6 @@ use Rattle.expull.specs.Header.{blockSize}
 use Rattle.history_lanes.specs.Lane.{sizeOn, wideOn, fullContent, LinkTo, Links, Below, Clear}
 
 -- ---- sizes
-
-pub size-pos : (b : ℕ) → 0 < blockSize b
-unfolding blockSize
-size-pos b = pow-pos (min b sizeTop)
 
 pub size-top : (b : ℕ) → blockSize b ≤ 2 ^ sizeTop
 unfolding blockSize

@@ -61,13 +61,3 @@ module _ (m : List ℕ) (a : Arena) (h : Header) (ks bs m′ : List ℕ) (a′ :
     },
     keep-content js (g .remaining) (L .below) t,
   )
-
-  -- its newest block stays clear of the blocks of the one appended to, new ones too (the other way round it is `fwd` of `After`)
-  pub clear-moved : (js : List ℕ) → Below (usedEnd a) js → TipClear js ks → TipClear js ks′
-  clear-moved [] b t = tt
-  clear-moved (y ∷ js) b t = A .back y (wideOn js) (b .0) t
-
--- a lane without blocks is clear of every lane
-pub clear-none : (ks : List ℕ) → TipClear ks []
-clear-none [] = tt
-clear-none (x ∷ ks) = tt

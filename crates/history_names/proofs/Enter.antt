@@ -5,19 +5,21 @@ use mathlib.Core.Logic.{_⊎_, inl, inr, ⊎-elim, _≢_}
 use mathlib.Core.Bool.{Bool, true, false, cond}
 use mathlib.Core.Option.{Option, none, some}
 use mathlib.Core.List.{List}
-use native.Mathlib.Decide.{ℕ-discrete}
+use native.Mathlib.Decide.{ℕ-discrete, decLe}
 use native.Mathlib.Omega.{arith}
 use lib.ListN.{length, getD, set, length-set}
 use lib.Seq.{getD-set-same, getD-set-other}
 use borrow.Author.Tests.{eq-eqb, ne-eqb}
 use Rattle.limits.specs.Limits.{nullAddress}
-use Rattle.memory_arena.specs.declared.Arena.{Arena}
 use Rattle.shared_arena_hashmap.specs.Buckets.{addressAt, hashAt, emptyAt, withBucket}
-use Rattle.shared_arena_hashmap.specs.Probe.{goodRecord, keyAt, startOf, nextBucket}
+use Rattle.shared_arena_hashmap.specs.Probe.{startOf, nextBucket}
 use Rattle.shared_arena_hashmap.specs.Grow.{freeFrom, freeOf, entered}
-use Rattle.history_names.specs.Table.{Names, nameAt, Member, occupied, Reached, Shows, Table, Outside, Records, Enters}
-use Rattle.history_names.proofs.Words.{length-bucket, bucket-word, bucket-address, bucket-hash, bucket-other}
-use Rattle.history_names.proofs.Walk.{next-below, start-below, renamed, AllTaken, taken-count, fill-name, fill-taken, fill-reached, fill-only, fill-count}
+use Rattle.history_names.specs.Table.{Names, nameAt, Member, occupied, Reached, Shows, Table, Outside}
+use Rattle.history_names.specs.Table.{OneBucket, Enters}
+use Rattle.shared_arena_hashmap.proofs.Laws.{length-bucket}
+use Rattle.shared_arena_hashmap.proofs.Words.{bucket-word, bucket-address, bucket-hash, bucket-other}
+use Rattle.shared_arena_hashmap.proofs.Room.{next-below, start-below}
+use Rattle.history_names.proofs.Walk.{renamed, AllTaken, taken-count, fill-name, fill-taken, fill-reached, fill-only, fill-count}
 use Rattle.history_names.proofs.Lookup.{empty-bucket, named-bucket}
 
 -- ---- what entering writes, whatever the words
@@ -62,7 +64,7 @@ module _ (t : List ℕ) (first l : ℕ) where
     pub enter-length : length (entered first l address hash t) ≡ length t
     enter-length = entered-either (λ (u : List ℕ). length u ≡ length t) refl (λ e. length-bucket (first + freeOf t first l hash) address hash t)
 
-    -- every word outside the table is as it was, and so is every bucket but the one that was empty
+    -- every word outside the table is as it was
     pub enter-frame : 0 < l → (q : ℕ) → Outside first l q → getD (entered first l address hash t) q 0 ≡ getD t q 0
     enter-frame h q d =
         entered-either (λ (u : List ℕ). getD u q 0 ≡ getD t q 0) refl
@@ -74,12 +76,6 @@ module _ (t : List ℕ) (first l : ℕ) where
         apart e (inr p) =
             let b : freeOf t first l hash ≤ l = rw (free-start hash) (free-bound l (startOf l hash) (start-below l hash h)) in
             inr (omega arith)
-
-    pub enter-others : (b : ℕ) → b ≢ first + freeOf t first l hash
-        → (addressAt (entered first l address hash t) b ≡ addressAt t b) × (hashAt (entered first l address hash t) b ≡ hashAt t b)
-    enter-others b n =
-        entered-either (λ (u : List ℕ). (addressAt u b ≡ addressAt t b) × (hashAt u b ≡ hashAt t b)) (refl, refl)
-        (λ e. bucket-other (first + freeOf t first l hash) address hash t b n)
 
 -- ---- the same bucket in other words
 
@@ -125,16 +121,19 @@ module _ {t : List ℕ} {first l : ℕ} {hash adr : List ℕ → ℕ} {g : Names
     inside-table : f < length g
     inside-table = omega (arith, F .below, T .long)
 
+    bucket-fits : 2 * (first + f) + 2 ≤ length t
+    bucket-fits = omega (arith, T .inside, F .below)
+
     filled-shows : (i : ℕ) → i < l → Shows (withBucket (first + f) (adr k) (hash k) t) (first + i) hash adr (nameAt (set g f (some k)) i)
     filled-shows i h = go (ℕ-discrete i f)
       where
-        fits : 2 * (first + f) + 2 ≤ length t
-        fits = omega (arith, T .inside, F .below)
-
         go : Dec (i ≡ f) → Shows (withBucket (first + f) (adr k) (hash k) t) (first + i) hash adr (nameAt (set g f (some k)) i)
         go (yes e) =
-            rw (e, getD-set-same g f (some k) none inside-table)
-            (bucket-address (first + f) (adr k) (hash k) t fits, bucket-hash (first + f) (adr k) (hash k) t fits, address)
+            rw (e, getD-set-same g f (some k) none inside-table) (
+              bucket-address (first + f) (adr k) (hash k) t bucket-fits,
+              bucket-hash (first + f) (adr k) (hash k) t bucket-fits,
+              address,
+            )
         go (no e) =
             let o = bucket-other (first + f) (adr k) (hash k) t (first + i) (omega arith) in
             rw (getD-set-other g f i (some k) none e)
@@ -169,26 +168,39 @@ module _ {t : List ℕ} {first l : ℕ} {hash adr : List ℕ → ℕ} {g : Names
       once = filled-once;
     }
 
-  -- a name that isn't in the table, entered where there is room: the table has it, and every name that it had, and no other
+    filled-one : f ≡ freeOf t first l (hash k)
+        → OneBucket first l (adr k) (hash k) t (withBucket (first + f) (adr k) (hash k) t)
+    filled-one e = record {
+      bucket = f;
+      below = F .below;
+      first-empty = e;
+      was-empty = subst (Shows t (first + f) hash adr) (F .empty) (T .shows f (F .below));
+      address-is = bucket-address (first + f) (adr k) (hash k) t bucket-fits;
+      hash-is = bucket-hash (first + f) (adr k) (hash k) t bucket-fits;
+      others = λ q x y. bucket-word (first + f) (adr k) (hash k) t q (beside q x y (decLe (2 * (first + f)) q));
+    }
+      where
+        beside : (q : ℕ) → q ≢ 2 * (first + f) → q ≢ 2 * (first + f) + 1 → Dec (2 * (first + f) ≤ q)
+            → (q < 2 * (first + f)) ⊎ (2 * (first + f) + 2 ≤ q)
+        beside q x y (yes h) = inr (omega arith)
+        beside q x y (no h) = inl (omega arith)
+
+  -- a name that isn't in the table, entered where there is room: the table has it, and every name that it had, and no
+  -- other
   pub enters : (k : List ℕ) → (Member k g → ⊥) → occupied g < l → adr k ≢ nullAddress → (g′ : Names) × Enters t first l hash adr g k g′
   enters k stranger room address =
       let f : ℕ = freeOf t first l (hash k) in
       let F : FirstFree l (startOf l (hash k)) f = free-found (hash k) room in
-      let b : f < length g = inside-table k f F stranger address in (
+      let b : f < length g = inside-table k f F stranger address in
+      let e : entered first l (adr k) (hash k) t ≡ withBucket (first + f) (adr k) (hash k) t =
+      entered-free t first l (adr k) (hash k) (λ e. absurd (omega (arith, F .below))) in (
         set g f (some k),
         record {
-          table =
-              rw (entered-free t first l (adr k) (hash k) (λ e. absurd (omega (arith, F .below))))
-              (filled-table k f F stranger address);
+          table = rw e (filled-table k f F stranger address);
           new = (f, getD-set-same g f (some k) none b);
           kept = λ n m. (m .0, fill-name g f k (F .empty) (m .0) n (m .1));
           only = λ n m. ⊎-elim (λ e. inl (e .0)) (λ e. inr (m .0, e)) (fill-only g f k (F .empty) (m .0) n b (m .1));
           more = fill-count g f k (F .empty) b;
+          one = rw e (filled-one k f F stranger address refl);
         },
       )
-
--- the records of all names, where the new one's is good and has its key
-pub records-entered : {t : List ℕ} {first l : ℕ} {hash adr : List ℕ → ℕ} {g : Names} {k : List ℕ} {g′ : Names} → Enters t first l hash adr g k g′
-    → (keys : List ℕ) (a : Arena) → Records keys a adr g → goodRecord a keys (adr k) ≡ true → keyAt keys (adr k) ≡ k → Records keys a adr g′
-records-entered {adr = adr} {k = k} E keys a R p q n m =
-    ⊎-elim (λ (e : n ≡ k). rw e (p, q)) (λ o. R n o) (E .only n m)

@@ -11,11 +11,12 @@ use native.Mathlib.Omega.{arith}
 use lib.ListN.{length, getD, take, replicate, length-replicate}
 use lib.Seq.{take-suc, take-all}
 use Rattle.spans.specs.Span.{Apart}
-use Rattle.memory_arena.specs.declared.Arena.{Arena}
 use Rattle.shared_arena_hashmap.specs.Buckets.{addressAt, hashAt, emptyAt, cleared}
 use Rattle.shared_arena_hashmap.specs.Grow.{entered, reentered, allReentered, grown}
-use Rattle.history_names.specs.Table.{Names, nameAt, Member, occupied, Shows, Table, Outside, Records, Enters, Grows}
-use Rattle.history_names.proofs.Words.{clear-length, clear-frame, clear-address}
+use Rattle.history_names.specs.Table.{Names, nameAt, Member, occupied, Shows, Table, Outside, Enters, Grows}
+use Rattle.shared_arena_hashmap.proofs.Laws.{length-cleared}
+use Rattle.shared_arena_hashmap.proofs.Words.{clear-address}
+use Rattle.history_names.proofs.Words.{clear-frame}
 use Rattle.history_names.proofs.Walk.{named-below, clash, renamed, occupied-append, occupied-part}
 use Rattle.history_names.proofs.Lookup.{empty-bucket, named-bucket, named-shows}
 use Rattle.history_names.proofs.Enter.{shows-same, enters, enter-length, enter-frame}
@@ -69,7 +70,7 @@ clears-count (suc n) = clears-count n
 pub clears : (t : List ℕ) (b l : ℕ) (hash adr : List ℕ → ℕ) → 0 < l → 2 * (b + l) ≤ length t → Table (cleared b l t) b l hash adr (replicate l none)
 clears t b l hash adr h k = record {
   some-bucket = h;
-  inside = rw (clear-length b l t) k;
+  inside = rw (length-cleared b l t) k;
   long = length-replicate l none;
   shows = λ i p. rw (blank-name l i) (clear-address b l t i p k);
   reachable = λ y m. absurd (clears-none l y m);
@@ -103,12 +104,6 @@ module _ (first l : ℕ) where
       reentered-all P f n (b + 1) (reentered b first l u) (reentered-either b u P x (f u (addressAt u b) (hashAt u b) x))
 
   module _ (n old : ℕ) (t : List ℕ) where
-    pub grow-length : length (grown n old first l t) ≡ length t
-    unfolding grown
-    grow-length =
-        reentered-all (λ (u : List ℕ). length u ≡ length t) (λ u a h e. enter-length u first l a h ∙ e) n old (cleared first l t)
-        (clear-length first l t)
-
     -- every word outside the new table is as it was
     pub grow-frame : 0 < l → (q : ℕ) → Outside first l q → getD (grown n old first l t) q 0 ≡ getD t q 0
     unfolding grown
@@ -206,7 +201,7 @@ module _ {t : List ℕ} {first l : ℕ} {hash adr : List ℕ → ℕ} {g : Names
   unfolding grown
   grown-midway inside =
       rw add-zero at (turns l 0 (cleared first′ l′ t) (replicate l′ none) (omega arith) (record {
-        old = old-kept t (cleared first′ l′ t) T (clear-length first′ l′ t) (clear-frame first′ l′ t);
+        old = old-kept t (cleared first′ l′ t) T (length-cleared first′ l′ t) (clear-frame first′ l′ t);
         table = clears t first′ l′ hash adr some-bucket inside;
         kept = λ n j b p. absurd (omega arith);
         only = λ n m. absurd (clears-none l′ n m);
@@ -225,8 +220,3 @@ module _ {t : List ℕ} {first l : ℕ} {hash adr : List ℕ → ℕ} {g : Names
           many = E .1 .many ∙ ap occupied (take-all l g (omega (arith, T .long)));
         },
       )
-
--- the records of all names are what they were
-pub records-grown : {t : List ℕ} {first l first′ l′ : ℕ} {hash adr : List ℕ → ℕ} {g g′ : Names} → Grows t first l first′ l′ hash adr g g′
-    → (keys : List ℕ) (a : Arena) → Records keys a adr g → Records keys a adr g′
-records-grown G keys a R n m = R n (G .only n m)

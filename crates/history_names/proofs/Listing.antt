@@ -9,7 +9,7 @@ use native.Mathlib.Nat.{suc-inj}
 use native.Mathlib.Numerals.{add-one}
 use native.Mathlib.Decide.{ℕ-discrete}
 use native.Mathlib.Omega.{arith}
-use lib.ListN.{length, drop, length-map, drop-of-length-le, List·getD-eq-default}
+use lib.ListN.{length, drop, drop-of-length-le, List·getD-eq-default}
 use lib.Seq.{drop-cons, getD-drop}
 use Rattle.fastcmp.proofs.Laws.{equal-same, equal-not}
 use Rattle.memory_arena.specs.declared.Arena.{Arena}
@@ -156,9 +156,6 @@ module _ {t : List ℕ} {first l : ℕ} {hash adr : List ℕ → ℕ} {g : Names
   -- going through from bucket 0 gives the addresses of all names' records in bucket order
   pub lists-all : listing t first l l 0 ≡ map adr (inOrder g)
   lists-all = listing-from l 0 (omega arith)
-
-  pub lists-count : length (listing t first l l 0) ≡ occupied g
-  lists-count = ap length lists-all ∙ length-map (inOrder g) adr ∙ order-length g
 
   -- so every name once, and no other
   pub lists-once : (k : List ℕ) → Member k g → times k (inOrder g) ≡ 1

@@ -20,7 +20,8 @@ use Rattle.shared_arena_hashmap.specs.declared.Walk.{Walk}
 use Rattle.shared_arena_hashmap.specs.Buckets.{addressAt, hashAt, emptyAt}
 use Rattle.shared_arena_hashmap.specs.Probe.{seenRecord, seenAt, startOf, nextBucket, walked, onSeen, probe, lookup}
 use Rattle.history_names.specs.Table.{Names, nameAt, Member, occupied, Reached, Shows, Table, Records}
-use Rattle.history_names.proofs.Walk.{next-below, start-below, named-below, clash, renamed, AllTaken, taken-count}
+use Rattle.shared_arena_hashmap.proofs.Room.{next-below, start-below}
+use Rattle.history_names.proofs.Walk.{named-below, clash, renamed, AllTaken, taken-count}
 
 -- names are equal or not
 pub decide-name : (y k : List ℕ) → Dec (y ≡ k)
@@ -156,10 +157,6 @@ module _ {t : List ℕ} {first l : ℕ} {hash adr : List ℕ → ℕ} {g : Names
         ⊎-elim (λ e. inl (met-lookup ∙ e))
         (λ e. inr (met-lookup ∙ e .0, taken-count g l l (startOf l (hash k)) (T .long) (omega arith) b (e .1)))
         (probe-misses f l (startOf l (hash k)) 0 b)
-
-    -- a table that isn't full has an empty bucket in every lap
-    pub misses-empty : (Member k g → ⊥) → occupied g < l → (lookup t keys a first l (hash k) k) .met ≡ Empty
-    misses-empty f h = ⊎-elim (λ e. e) (λ e. absurd (omega (arith, e .1))) (misses f)
 
   -- ---- how many buckets a lookup looks at, whatever the name and the records
 

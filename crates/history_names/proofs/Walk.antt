@@ -1,35 +1,19 @@
 -- A walk round the table, what it has met when it has met no empty bucket, and how many names that are. Assumes nothing.
 use Prim.Native.Nat.{ℕ, zero, suc, _+_, _-_, _≤_, _<_}
 use mathlib.Core.Path.{_≡_, refl, sym, ap, _∙_, subst}
-use mathlib.Core.Logic.{_⊎_, inl, inr, ⊎-elim, _≢_}
-use mathlib.Core.Bool.{Bool, true, false, cond}
+use mathlib.Core.Logic.{_⊎_, inl, inr}
 use mathlib.Core.Option.{Option, none, some}
 use mathlib.Core.List.{List, [], _∷_, _++_}
-use native.Mathlib.Nat.{add-zero, add-suc, zero-add, suc-add, mod-lt}
+use native.Mathlib.Nat.{add-zero, add-suc, zero-add, suc-add}
 use native.Mathlib.Decide.{ℕ-discrete, decLe}
 use native.Mathlib.Omega.{arith}
-use lib.Dec.{eqb}
 use lib.ListN.{length, take, drop, set, take-append-drop, List·getD-eq-default}
 use lib.Seq.{take-suc, take-add, getD-set-same, getD-set-other}
-use borrow.Author.Tests.{eqb-true, eqb-false}
-use Rattle.shared_arena_hashmap.specs.Probe.{startOf, nextBucket}
+use Rattle.shared_arena_hashmap.specs.Probe.{nextBucket}
+use Rattle.shared_arena_hashmap.proofs.Room.{next-cases, next-below}
 use Rattle.history_names.specs.Table.{Names, nameAt, Taken, occupied, Reached}
 
 -- ---- places
-
--- the next bucket is the first again behind the last, else one on
-pub next-cases : (l i : ℕ) → i < l → ((i + 1 ≡ l) × (nextBucket l i ≡ 0)) ⊎ ((i + 1 < l) × (nextBucket l i ≡ i + 1))
-next-cases l i h = go (eqb (i + 1) l) refl
-  where
-    go : (b : Bool) → eqb (i + 1) l ≡ b → ((i + 1 ≡ l) × (cond b 0 (i + 1) ≡ 0)) ⊎ ((i + 1 < l) × (cond b 0 (i + 1) ≡ i + 1))
-    go true e = inl (eqb-true (i + 1) l e, refl)
-    go false e = let n : i + 1 ≢ l = eqb-false (i + 1) l e in inr (omega arith, refl)
-
-pub next-below : (l i : ℕ) → i < l → nextBucket l i < l
-next-below l i h = ⊎-elim (λ c. omega (arith, c .1)) (λ c. omega (arith, c .0, c .1)) (next-cases l i h)
-
-pub start-below : (l hash : ℕ) → 0 < l → startOf l hash < l
-start-below l hash h = mod-lt (hash + 1) h
 
 -- no name and a name; and a name by another name for it
 pub clash : {A : Type 0} {o : Option (List ℕ)} {k : List ℕ} → o ≡ none → o ≡ some k → A
@@ -52,11 +36,6 @@ pub occupied-append : (g h : Names) → occupied (g ++ h) ≡ occupied g + occup
 occupied-append [] h = sym (zero-add (occupied h))
 occupied-append (none ∷ g) h = occupied-append g h
 occupied-append (some y ∷ g) h = ap suc (occupied-append g h) ∙ sym (suc-add (occupied g) (occupied h))
-
-pub occupied-length : (g : Names) → occupied g ≤ length g
-occupied-length [] = omega arith
-occupied-length (none ∷ g) = omega (arith, occupied-length g)
-occupied-length (some y ∷ g) = omega (arith, occupied-length g)
 
 -- a front part has no more names than a longer one, nor than the whole
 occupied-front : (g : Names) (a m : ℕ) → occupied (take a g) ≤ occupied (take (a + m) g)

@@ -1,5 +1,5 @@
--- Document 01, "Buckets": "Listing goes in bucket order: the next occupied bucket from i, or none". What it meets, in terms of the names
--- that a table stands for, and what going through the whole table collects.
+-- Document 01, "Buckets": "Listing goes in bucket order: the next occupied bucket from i, or none". What it meets, in
+-- terms of the names that a table stands for, and what going through the whole table collects.
 use Prim.Native.Nat.{ℕ, zero, suc, _+_, _-_, _≤_, _<_}
 use mathlib.Core.Path.{_≡_}
 use mathlib.Core.Bool.{cond}
@@ -38,7 +38,8 @@ abbrev pub listedNext : Next → (ℕ → List ℕ) → List ℕ
 listedNext NoMore rest = []
 listedNext (Occupied j address) rest = address ∷ rest (j + 1)
 
--- a way through the table by at most n questions for the next occupied bucket, the first of them from bucket i: the record addresses
+-- a way through the table by at most n questions for the next occupied bucket, the first of them from bucket i: the
+-- record addresses
 unfoldable pub listing : List ℕ → ℕ → ℕ → ℕ → ℕ → List ℕ
 unfolding occupiedFrom
 listing t first l zero i = []

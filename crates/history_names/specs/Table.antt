@@ -1,6 +1,6 @@
 -- Document 01, "Buckets", over a history: the words of a standing table, and the names that its buckets stand for.
--- Beside the words stands a list that no code has: for each bucket its name, or none where it is empty. A name's hash and the address of
--- its record are functions of the name; nothing here asks that the hash tells names apart.
+-- Beside the words stands a list that no code has: for each bucket its name, or none where it is empty. A name's hash
+-- and the address of its record are functions of the name; nothing here asks that the hash tells names apart.
 use Prim.Native.Nat.{ℕ, zero, suc, _+_, _*_, _≤_, _<_}
 use mathlib.Core.Path.{_≡_}
 use mathlib.Core.Logic.{_⊎_, _≢_}
@@ -12,7 +12,7 @@ use Rattle.limits.specs.Limits.{nullAddress}
 use Rattle.memory_arena.specs.declared.Arena.{Arena}
 use Rattle.shared_arena_hashmap.specs.Buckets.{addressAt, hashAt}
 use Rattle.shared_arena_hashmap.specs.Probe.{goodRecord, keyAt, startOf, nextBucket}
-use Rattle.shared_arena_hashmap.specs.Grow.{entered, grown}
+use Rattle.shared_arena_hashmap.specs.Grow.{freeOf, entered, grown}
 
 -- a bucket each, its name or none
 abbrev pub Names : Type 0
@@ -46,7 +46,7 @@ abbrev pub Shows : List ℕ → ℕ → (List ℕ → ℕ) → (List ℕ → ℕ
 Shows t b hash adr none = addressAt t b ≡ nullAddress
 Shows t b hash adr (some k) = (addressAt t b ≡ adr k) × (hashAt t b ≡ hash k) × (adr k ≢ nullAddress)
 
--- the l buckets from `first` on of the words t are a table of the names g
+-- RULES Y12. The l buckets from `first` on of the words t are a table of the names g
 pub record Table (t : List ℕ) (first l : ℕ) (hash adr : List ℕ → ℕ) (g : Names) : Type 0 where
   pub some-bucket : 0 < l
   pub inside : 2 * (first + l) ≤ length t
@@ -55,7 +55,7 @@ pub record Table (t : List ℕ) (first l : ℕ) (hash adr : List ℕ → ℕ) (g
   pub reachable : (k : List ℕ) → Member k g → Reached g l k l (startOf l (hash k))
   pub once : (k : List ℕ) (i j : ℕ) → nameAt g i ≡ some k → nameAt g j ≡ some k → i ≡ j
 
--- word q is none of the table's
+-- RULES Y6. Word q is none of the table's
 abbrev pub Outside : ℕ → ℕ → ℕ → Type 0
 Outside first l q = (q < 2 * first) ⊎ (2 * (first + l) ≤ q)
 
@@ -63,15 +63,29 @@ Outside first l q = (q < 2 * first) ⊎ (2 * (first + l) ≤ q)
 abbrev pub Records : List ℕ → Arena → (List ℕ → ℕ) → Names → Type 0
 Records keys a adr g = (k : List ℕ) → Member k g → (goodRecord a keys (adr k) ≡ true) × (keyAt keys (adr k) ≡ k)
 
--- what entering k in a table of the names g leaves: a table of g′, which has the names of g and k, one more
-pub record Enters (t : List ℕ) (first l : ℕ) (hash adr : List ℕ → ℕ) (g : Names) (k : List ℕ) (g′ : Names) : Type 0 where
+-- RULES Y6. What entering a record with this address and this hash does to the words: one bucket differs, the first
+-- empty one of the hash's probe, which holds the record now; no other word does
+pub record OneBucket (first l address hash : ℕ) (t t′ : List ℕ) : Type 0 where
+  pub bucket : ℕ
+  pub below : bucket < l
+  pub first-empty : bucket ≡ freeOf t first l hash
+  pub was-empty : addressAt t (first + bucket) ≡ nullAddress
+  pub address-is : addressAt t′ (first + bucket) ≡ address
+  pub hash-is : hashAt t′ (first + bucket) ≡ hash
+  pub others : (q : ℕ) → q ≢ 2 * (first + bucket) → q ≢ 2 * (first + bucket) + 1 → getD t′ q 0 ≡ getD t q 0
+
+-- RULES Y12. What entering k in a table of the names g leaves: a table of g′, which has the names of g and k, one more
+pub record Enters (t : List ℕ) (first l : ℕ) (hash adr : List ℕ → ℕ) (g : Names) (k : List ℕ) (g′ : Names)
+    : Type 0 where
   pub table : Table (entered first l (adr k) (hash k) t) first l hash adr g′
   pub new : Member k g′
   pub kept : (n : List ℕ) → Member n g → Member n g′
   pub only : (n : List ℕ) → Member n g′ → (n ≡ k) ⊎ Member n g
   pub more : occupied g′ ≡ suc (occupied g)
+  pub one : OneBucket first l (adr k) (hash k) t (entered first l (adr k) (hash k) t)
 
--- what growing a table of the names g leaves: a table of g′ at the new place, with the same names and as many
+-- RULES Y12. What growing a table of the names g leaves: a table of g′ at the new place, with the same names and as
+-- many
 pub record Grows (t : List ℕ) (first l first′ l′ : ℕ) (hash adr : List ℕ → ℕ) (g g′ : Names) : Type 0 where
   pub table : Table (grown l first first′ l′ t) first′ l′ hash adr g′
   pub kept : (n : List ℕ) → Member n g → Member n g′

@@ -1,12 +1,12 @@
--- Document 01, "Refusal numbers": what an answer says in that paper's terms, and which numbers each call may give. Each enum that a call
--- answers with has a definition that gives its `Said` case by case, and the call's contract uses it.
+-- Document 01, "Refusal numbers": what an answer says in that paper's terms, and which numbers each call may give. Each
+-- enum that a call answers with has a definition that gives its `Said` case by case, and the call's contract uses it.
 use Prim.Native.Nat.{ℕ}
 use mathlib.Core.Path.{_≡_, sym, _∙_}
 use mathlib.Core.Bool.{Bool, true, false, _||_}
 use mathlib.Core.List.{List, [], _∷_}
 use lib.Dec.{eqb}
 
--- the paper's word for an answer that is no refusal: two answers that differ in kind have different words
+-- RULES X7. The paper's word for an answer that is no refusal: two answers that differ in kind have different words
 pub data Word : Type 0 where
   -- a copy, a bare read or a bare write
   done : Word
@@ -32,13 +32,20 @@ pub data Word : Type 0 where
   -- how many keys
   aCount : Word
 
--- an answer: its word and the values it tells; or a refusal: its number, and the value told beside it where the paper tells one
+-- RULES X7. An answer: its word and the values it tells; or a refusal: its number, and the value told beside it where
+-- the paper tells one
 pub data Said : Type 0 where
   answered : Word → List ℕ → Said
   refused : ℕ → List ℕ → Said
 
+-- RULES X7. The number of what is said, 0 where it is no refusal.
+abbrev pub numberIn : Said → ℕ
+numberIn (answered w vs) = 0
+numberIn (refused n vs) = n
+
 -- ---- which numbers a call may give
 
+-- RULES X3. What is asked: each call that can refuse.
 pub data Asked : Type 0 where
   copying : Asked
   allocating : Asked
@@ -53,7 +60,7 @@ pub data Asked : Type 0 where
   listingBuckets : Asked
   countingKeys : Asked
 
--- the numbers of each call, in the order in which they are given (docs/DECISIONS.md, D1)
+-- RULES X3. The numbers of each call, in the order in which they are given.
 abbrev pub refusalNumbers : Asked → List ℕ
 refusalNumbers copying = 9 ∷ []
 refusalNumbers allocating = 9 ∷ 10 ∷ []
@@ -68,17 +75,18 @@ refusalNumbers findingBlock = 2 ∷ 3 ∷ 4 ∷ []
 refusalNumbers listingBuckets = 2 ∷ 4 ∷ []
 refusalNumbers countingKeys = 2 ∷ []
 
+-- RULES X7. Whether a number is listed.
 abbrev pub isAmong : ℕ → List ℕ → Bool
 isAmong k [] = false
 isAmong k (n ∷ ns) = eqb k n || isAmong k ns
 
--- no refusal, or one whose number the call may give
+-- RULES X7. No refusal, or one whose number the call may give.
 abbrev pub permitted : Asked → Said → Bool
 permitted q (answered w vs) = true
 permitted q (refused n vs) = isAmong n (refusalNumbers q)
 
 -- ---- one outcome
 
--- a promise that is an equation permits one outcome: two that meet it are equal
+-- RULES X8. A promise that is an equation permits one outcome: two that meet it are equal
 pub one-outcome {ℓ} : {A : Type ℓ} {x y settled : A} → x ≡ settled → y ≡ settled → x ≡ y
 one-outcome p q = p ∙ sym q

@@ -24,11 +24,13 @@ sensible a len = lendable arenaLimit len && standing pageSize a len
 
 -- ---- this paper's number and values of each answer
 
+-- RULES X7.
 abbrev pub saidAllocated : Allocated → Said
 saidAllocated (At address a) = answered anAddress (address ∷ a .page ∷ a .used ∷ [])
 saidAllocated NoRoom = answered noRoom []
 saidAllocated (Refused n) = refused n []
 
+-- RULES X7.
 abbrev pub saidTouched : Touched → Said
 saidTouched Done = answered done []
 saidTouched (Declined n) = refused n []
@@ -81,6 +83,7 @@ used n = record { page = 0; used = n }
 abbrev hundred : List ℕ
 hundred = replicate 100 7
 
+-- RULES X7.
 pub said-cases : (saidAllocated (allocateOf (used 88) 100 12) ≡ answered anAddress (88 ∷ 0 ∷ 100 ∷ []))
     × (saidAllocated (allocateOf (used 89) 100 12) ≡ answered noRoom [])
     × (saidAllocated (allocateOf (used 101) 100 0) ≡ refused 9 [])
@@ -94,16 +97,20 @@ said-cases = (refl, refl, refl, refl, refl, refl, refl, refl)
 
 -- ---- the promises permit one outcome each
 
+-- RULES X8.
 pub allocate-settled : (a : Arena) (len n : ℕ) {x y : Allocated} → x ≡ allocateOf a len n → y ≡ allocateOf a len n → x ≡ y
 allocate-settled a len n p q = one-outcome p q
 
+-- RULES X8.
 pub read-settled : (a : Arena) (pages : List ℕ) (at : ℕ) (output : List ℕ) {x y : Out}
     → x ≡ readOf a pages at output → y ≡ readOf a pages at output → x ≡ y
 read-settled a pages at output p q = one-outcome p q
 
+-- RULES X8.
 pub write-settled : (a : Arena) (pages : List ℕ) (at : ℕ) (bytes : List ℕ) {x y : Out}
     → x ≡ writeOf a pages at bytes → y ≡ writeOf a pages at bytes → x ≡ y
 write-settled a pages at bytes p q = one-outcome p q
 
+-- RULES X8.
 pub slice-settled : (a : Arena) (pages : List ℕ) (at n : ℕ) {x y : List ℕ} → x ≡ sliceOf a pages at n → y ≡ sliceOf a pages at n → x ≡ y
 slice-settled a pages at n p q = one-outcome p q

@@ -1,17 +1,16 @@
 -- Laws of scripts: an entry by its tests, and a turn of the replay. Assumes nothing.
 use Prim.Native.Nat.{ℕ, zero, suc, _+_, _-_, _≤_, _<_}
 use mathlib.Core.Path.{_≡_, refl, sym, ap, _∙_, subst}
-use mathlib.Core.Bool.{Bool, true, false, cond, false≢true}
-use mathlib.Core.List.{List, [], _∷_}
+use mathlib.Core.Bool.{Bool, true, false, false≢true}
+use mathlib.Core.List.{List}
 use native.Mathlib.Omega.{arith}
-use lib.Dec.{ltb}
 use lib.ListN.{length}
 use borrow.Author.Tests.{lt-ltb, le-ltb}
 use Rattle.numbers.specs.LittleEndian.{leNumber}
 use Rattle.spans.specs.Span.{readSpan}
 use Rattle.store.specs.declared.Created.{Created}
 use Rattle.store.specs.declared.Created.the-variants.{Made, Barred}
-use Rattle.store.specs.Create.{Out, out, creatable, createOf}
+use Rattle.store.specs.Create.{Out as Create·Out, out as Create·out, creatable}
 use Rattle.store.specs.Look.{Lent, lent}
 use Rattle.store.proofs.Whole.{create-made, create-barred}
 use Rattle.store.specs.declared.State.{State}
@@ -20,7 +19,8 @@ use Rattle.history.specs.Promises.{ReadsAs}
 use Rattle.history.proofs.Demand.{reads-back}
 use Rattle.replay.specs.declared.Entry.{Entry}
 use Rattle.replay.specs.declared.Entry.the-variants.{Whole, NoEntry}
-use Rattle.replay.specs.Script.{world, entryAt, Inside, onEntry, callsFrom, callsOf, played, Replayed}
+use Rattle.replay.specs.Script.{world, entryAt, Inside, onEntry, callsFrom, callsOf, played, Out}
+use Rattle.replay.specs.Script.{out, leftBy, playedOn, createdOn, replayOf, Replayed}
 
 module _ (s : List ℕ) (at : ℕ) where
   pub entry-short : length s - at < 6 → entryAt s at ≡ NoEntry
@@ -79,30 +79,65 @@ abbrev numberIn : Created → ℕ
 numberIn (Made st) = 0
 numberIn (Barred n) = n
 
-module _ (capacity seed : ℕ) (table keys lists s : List ℕ) where
-  -- refused: by 1, and nothing has changed
-  pub replay-barred : (n : ℕ) (t : List ℕ) → out (Barred n) t ≡ createOf capacity seed table (length keys) (length lists)
-      → Replayed capacity seed (lent table keys lists) s (Barred n) (lent t keys lists)
-  replay-barred n t p = go (creatable capacity (length table) (length keys) (length lists)) refl
-    where
-      go : (b : Bool) → creatable capacity (length table) (length keys) (length lists) ≡ b
-          → Replayed capacity seed (lent table keys lists) s (Barred n) (lent t keys lists)
-      go true e = absurd (false≢true (ap (λ (o : Out). isMade (o .answer)) (p ∙ create-made capacity seed table (length keys) (length lists) e)))
-      go false e =
-          let q = p ∙ create-barred capacity seed table (length keys) (length lists) e in
-          (ap (λ (o : Out). numberIn (o .answer)) q, ap (λ (o : Out). lent (o .table) keys lists) q)
+module _ (capacity seed : ℕ) (m : Lent) (s : List ℕ) where
+  -- both clauses of the contract
+  abbrev Meets : Created → Lent → Type 0
+  Meets r m′ = (out r m′ ≡ replayOf capacity seed m s) × Replayed capacity seed m s r m′
 
-  -- accepted: demand 3, of the store that the script's appends leave
-  pub replay-made : (first : State) (t : List ℕ) (st : State) (m : Lent)
-      → out (Made first) t ≡ createOf capacity seed table (length keys) (length lists)
-      → world st m ≡ play (callsOf s) (world first (lent t keys lists))
-      → Replayed capacity seed (lent table keys lists) s (Made st) m
-  replay-made first t st m p q =
-      let w : World = world first (lent t keys lists) in
-      let born : Born capacity seed table keys lists w = record { made = sym p; keys-as-lent = refl; lists-as-lent = refl } in (
-        w,
-        born,
-        λ name short.
-            subst (λ (v : World). ReadsAs v name (joined name (callsOf s) w)) (sym q)
-            (reads-back capacity seed table keys lists w born (callsOf s) name short),
+  abbrev onCreated : Create·Out → Out
+  onCreated o = playedOn (o .answer) (o .table) m s
+
+  -- refused: by 1, and nothing has changed
+  barred : (n : ℕ) (t : List ℕ) → Create·out (Barred n) t ≡ createdOn capacity seed m → (b : Bool)
+      → creatable capacity (length (m .table)) (length (m .keys)) (length (m .lists)) ≡ b
+      → Replayed capacity seed m s (Barred n) (lent t (m .keys) (m .lists))
+  barred n t p true e =
+      let q = p ∙ create-made capacity seed (m .table) (length (m .keys)) (length (m .lists)) e in
+      absurd (false≢true (ap (λ (o : Create·Out). isMade (o .answer)) q))
+  barred n t p false e =
+      let q = p ∙ create-barred capacity seed (m .table) (length (m .keys)) (length (m .lists)) e in
+      let same : t ≡ m .table = ap (λ (o : Create·Out). o .table) q in (
+        sym p ∙ ap (Create·out (Barred n)) same,
+        ap (λ (o : Create·Out). numberIn (o .answer)) q,
+        ap (λ (t : List ℕ). lent t (m .keys) (m .lists)) same,
       )
+
+  pub replay-barred : (n : ℕ) (t : List ℕ) → Create·out (Barred n) t ≡ createdOn capacity seed m
+      → Meets (Barred n) (lent t (m .keys) (m .lists))
+  replay-barred n t p = (
+    ap onCreated p,
+    barred n t p (creatable capacity (length (m .table)) (length (m .keys)) (length (m .lists))) refl,
+  )
+
+  -- accepted: what the script's appends leave, so demand 3
+  pub replay-made : (first : State) (t : List ℕ) (st : State) (m′ : Lent)
+      → Create·out (Made first) t ≡ createdOn capacity seed m
+      → world st m′ ≡ play (callsOf s) (world first (lent t (m .keys) (m .lists))) → Meets (Made st) m′
+  replay-made first t st m′ p q =
+      let w : World = world first (lent t (m .keys) (m .lists)) in
+      let born : Born capacity seed (m .table) (m .keys) (m .lists) w =
+      record { made = sym p; keys-as-lent = refl; lists-as-lent = refl } in (
+        ap leftBy q ∙ ap onCreated p,
+        (
+          w,
+          born,
+          q,
+          λ name short.
+              subst (λ (v : World). ReadsAs v name (joined name (callsOf s) w)) (sym q)
+              (reads-back capacity seed (m .table) (m .keys) (m .lists) w born (callsOf s) name short),
+        ),
+      )
+
+  -- what meets the second clause meets the first
+  replayed-is : (r : Created) (m′ : Lent) → Replayed capacity seed m s r m′ → out r m′ ≡ replayOf capacity seed m s
+  replayed-is (Barred n) m′ P = ap (out (Barred n)) (P .2) ∙ sym (ap onCreated (P .0))
+  replayed-is (Made st) m′ P =
+      let first : World = world (P .0 .state) (lent (P .0 .memory .table) (m .keys) (m .lists)) in
+      let lent-is : P .0 ≡ first =
+      λ i. world (P .0 .state) (lent (P .0 .memory .table) (P .1 .keys-as-lent i) (P .1 .lists-as-lent i)) in
+      ap leftBy (P .2) ∙ ap (λ (w : World). leftBy (play (callsOf s) w)) lent-is ∙ sym (ap onCreated (P .1 .made))
+
+  -- "that two permitted outcomes coincide is itself proved"
+  pub replay-settled : (r₁ r₂ : Created) (m₁ m₂ : Lent) → Replayed capacity seed m s r₁ m₁
+      → Replayed capacity seed m s r₂ m₂ → out r₁ m₁ ≡ out r₂ m₂
+  replay-settled r₁ r₂ m₁ m₂ P Q = replayed-is r₁ m₁ P ∙ sym (replayed-is r₂ m₂ Q)

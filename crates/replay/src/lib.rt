@@ -1,7 +1,10 @@
-// A whole shift in one call: a store is created on lent memory, and appends that stand one behind the other in a script are played on it.
+// A whole shift in one call: a store is created on lent memory, and appends that stand one behind the other in a
+// script are played on it.
 //
-// It promises demand 3 of running code: whatever the script holds, each name then reads as its accepted appends joined in order, and as absent where
-// there was none. specs/Script.antt says which appends a script holds. It uses limits, numbers, spans, store and history (and the crates of the store's types).
+// It promises demand 3 of running code: whatever the script holds, each name then reads as its accepted appends joined
+// in order, and as absent where there was none; and every lent byte and word is what the appends leave one by one.
+// specs/Script.antt says which appends a script holds. It uses limits, numbers, spans, store and history, and the
+// crates of the store's types.
 use store::Appended;
 use store::Created;
 use store::State;
@@ -10,9 +13,9 @@ ghost use Prim.Native.Nat.{_≤_};
 ghost use lib.ListN.{length};
 ghost use Rattle.store.specs.Look.{lent};
 ghost use Rattle.history.specs.History.{play, stateAfter};
-ghost use Rattle.replay.specs.Script.{world, entryAt, Inside, callsOf, played, Replayed};
+ghost use Rattle.replay.specs.Script.{world, entryAt, Inside, callsOf, played, out, replayOf, Replayed};
 
-// An entry of a script: where its name and its bytes lie, and where the next entry starts; or no whole entry there.
+// An entry of a script: where its name ends, where its bytes start and end; or no whole entry there.
 pub enum Entry {
     Whole(usize, usize, usize),
     NoEntry,
@@ -21,7 +24,8 @@ pub enum Entry {
 // The entry at a place: name length (2 bytes, little-endian), name, byte length (4), bytes.
 fn entry_at(script: &[u8], at: usize) -> Entry
     requires { ⌜ at ≤ length (now script) ⌝ }
-    ensures { λ r. ⌜ (r ≡ entryAt (now (script .entry)) at) × Inside (length (now (script .entry))) at r ⌝ }
+    ensures entry { λ r. ⌜ r ≡ entryAt (now (script .entry)) at ⌝ }
+    ensures inside { λ r. ⌜ Inside (length (now (script .entry))) at r ⌝ }
 {
     let left = script.len() - at;
     if left < 6 {
@@ -61,8 +65,11 @@ fn play_entry(
     from: usize,
     to: usize,
 ) -> State
-    requires { ⌜ (name ≤ «name_end») × ((«name_end» ≤ length (now script)) × ((from ≤ to) × (to ≤ length (now script)))) ⌝ }
-    ensures { λ r. ⌜ world r (lent (now (table .exit)) (now (keys .exit)) (now (lists .exit))) ≡ played st (lent (now (table .entry)) (now (keys .entry)) (now (lists .entry))) (now (script .entry)) name «name_end» from to ⌝ }
+    requires { ⌜ (name ≤ «name_end»)
+        × ((«name_end» ≤ length (now script)) × ((from ≤ to) × (to ≤ length (now script)))) ⌝ }
+    ensures { λ r. ⌜ world r (lent (now (table .exit)) (now (keys .exit)) (now (lists .exit)))
+        ≡ played st (lent (now (table .entry)) (now (keys .entry)) (now (lists .entry))) (now (script .entry))
+        name «name_end» from to ⌝ }
 {
     let a = store::write::append(
         st,
@@ -83,7 +90,9 @@ fn play_script(
     lists: &mut [u8],
     script: &[u8],
 ) -> State
-    ensures { λ r. ⌜ world r (lent (now (table .exit)) (now (keys .exit)) (now (lists .exit))) ≡ play (callsOf (now (script .entry))) (world st (lent (now (table .entry)) (now (keys .entry)) (now (lists .entry)))) ⌝ }
+    ensures { λ r. ⌜ world r (lent (now (table .exit)) (now (keys .exit)) (now (lists .exit)))
+        ≡ play (callsOf (now (script .entry)))
+        (world st (lent (now (table .entry)) (now (keys .entry)) (now (lists .entry)))) ⌝ }
 {
     let mut state = st;
     let mut at = 0;
@@ -110,7 +119,8 @@ fn play_script(
     state
 }
 
-// A store on lent memory, and a script's appends played on it: the state after the last, or refusal 1 and nothing changed.
+// A store on lent memory, and a script's appends played on it: the state after the last, or refusal 1 and nothing
+// changed.
 pub fn replay(
     capacity: usize,
     seed: u32,
@@ -119,7 +129,12 @@ pub fn replay(
     lists: &mut [u8],
     script: &[u8],
 ) -> Created
-    ensures { λ r. ⌜ Replayed capacity seed (lent (now (table .entry)) (now (keys .entry)) (now (lists .entry))) (now (script .entry)) r (lent (now (table .exit)) (now (keys .exit)) (now (lists .exit))) ⌝ }
+    ensures settled { λ r. ⌜ out r (lent (now (table .exit)) (now (keys .exit)) (now (lists .exit)))
+        ≡ replayOf capacity seed (lent (now (table .entry)) (now (keys .entry)) (now (lists .entry)))
+        (now (script .entry)) ⌝ }
+    ensures replayed { λ r. ⌜ Replayed capacity seed
+        (lent (now (table .entry)) (now (keys .entry)) (now (lists .entry))) (now (script .entry))
+        r (lent (now (table .exit)) (now (keys .exit)) (now (lists .exit))) ⌝ }
 {
     let made = store::create::create(capacity, seed, table, keys, lists);
     let Created::Made(st) = made else {

@@ -1,4 +1,5 @@
--- What follows from the rules of buckets: powers of two, lengths, records that were met, and each loop's turn and end. Assumes nothing.
+-- What follows from the rules of buckets: powers of two, lengths, records that were met, and each loop's turn and end.
+-- Assumes nothing.
 use Prim.Native.Nat.{ℕ, zero, suc, _+_, _-_, _*_, _/_, _^_, _≤_, _<_, min}
 use mathlib.Core.Path.{_≡_, refl, sym, ap, _∙_, subst}
 use mathlib.Core.Bool.{Bool, true, false, cond}

@@ -1,5 +1,5 @@
--- Room in a table, by counting empty buckets: a probe finds an empty bucket wherever there is one, and a table that has grown has one left,
--- whatever the words held. Assumes nothing.
+-- Room in a table, by counting empty buckets: a probe finds an empty bucket wherever there is one, and a table that has
+-- grown has one left, whatever the words held. Assumes nothing.
 use Prim.Native.Nat.{ℕ, zero, suc, _+_, _*_, _≤_, _<_}
 use mathlib.Core.Path.{_≡_, refl, sym, ap, _∙_}
 use mathlib.Core.Logic.{_⊎_, inl, inr, ⊎-elim, _≢_}

@@ -1,5 +1,5 @@
--- An accepted append of a name that doesn't stand has entered it, on any memory: a table that isn't saturated has shown an empty bucket to the
--- lookup, and one that has grown has more buckets than were re-entered. Assumes nothing.
+-- An accepted append of a name that doesn't stand has entered it, on any memory: a table that isn't saturated has shown
+-- an empty bucket to the lookup, and one that has grown has more buckets than were re-entered. Assumes nothing.
 use Prim.Native.Nat.{ℕ, _+_, _*_, _/_, _≤_, _<_}
 use mathlib.Core.Path.{_≡_, refl, ap, _∙_, subst}
 use mathlib.Core.Bool.{Bool, true, false, cond}

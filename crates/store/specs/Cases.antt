@@ -1,5 +1,5 @@
--- A row a case: what each call says in document 01's terms, on a store of 18 words and twice 64 bytes, where all memory held 7s. Each row is
--- worked out from the definitions that the contracts cite.
+-- A row a case: what each call says in document 01's terms, on a store of 18 words and twice 64 bytes, where all memory
+-- held 7s. Each row is worked out from the definitions that the contracts cite.
 use Prim.Native.Nat.{ℕ}
 use mathlib.Core.Path.{_≡_, refl}
 use mathlib.Core.List.{List, [], _∷_}
@@ -44,11 +44,13 @@ lent-one = appendOf start lent-at-first lane-a (1 ∷ 2 ∷ 3 ∷ []) .memory
 abbrev broken : Lent
 broken = lent (lent-one .table) (overwrite 0 (255 ∷ 255 ∷ []) (lent-one .keys)) (lent-one .lists)
 
+-- RULES X7.
 pub said-created : (saidCreated (createOf 1 0 (sevens 18) 64 64 .answer) ≡ answered created [])
     × (saidCreated (createOf 0 0 (sevens 18) 64 64 .answer) ≡ refused 1 [])
 unfolding createOf
 said-created = (refl, refl)
 
+-- RULES X7.
 pub said-looked : (saidLookup (lookupOf one lent-one lane-a) ≡ answered aPlace (0 ∷ []))
     × (saidLookup (lookupOf one lent-one lane-b) ≡ answered absent [])
     × (saidLookup (lookupOf start lent-at-first lane-a) ≡ answered absent [])
@@ -58,6 +60,7 @@ pub said-looked : (saidLookup (lookupOf one lent-one lane-a) ≡ answered aPlace
 unfolding createOf appendOf lookupOf
 said-looked = (refl, refl, refl, refl, refl, refl)
 
+-- RULES X7.
 pub said-answered : (saidAnswer (lengthOf one lent-one lane-a) ≡ answered aLength (3 ∷ []))
     × (saidAnswer (lengthOf one lent-one lane-b) ≡ answered absent [])
     × (saidAnswer (lengthOf one broken lane-a) ≡ refused 4 [])
@@ -68,6 +71,7 @@ pub said-answered : (saidAnswer (lengthOf one lent-one lane-a) ≡ answered aLen
 unfolding createOf appendOf lengthOf readOf findBlockOf
 said-answered = (refl, refl, refl, refl, refl, refl, refl)
 
+-- RULES X7.
 pub said-listed : (saidListed (nextOf one lent-one 0) ≡ answered aBucket (0 ∷ 0 ∷ []))
     × (saidListed (nextOf one lent-one 1) ≡ answered noBucket [])
     × (saidListed (nextOf one broken 0) ≡ refused 4 [])
@@ -83,7 +87,8 @@ tight = freshState 0 2 64 64 1
 abbrev lent-tight : Lent
 lent-tight = lent (createOf 1 0 (sevens 2) 64 64 .table) (sevens 64) (sevens 64)
 
--- 6 for a record of 46 bytes behind one of 19, in 64; 7 for blocks of 12, 20 and 36 bytes behind one of 12, in 64
+-- RULES X7. 6 for a record of 46 bytes behind one of 19, in 64; 7 for blocks of 12, 20 and 36 bytes behind one of 12,
+-- in 64
 pub said-appended : (saidAppended (appendOf start lent-at-first lane-a [] .answer) ≡ answered accepted [])
     × (saidAppended (appendOf one (lent [] [] []) lane-a [] .answer) ≡ refused 2 [])
     × (saidAppended (appendOf one lent-one (sevens 65536) [] .answer) ≡ refused 3 [])

@@ -1,5 +1,6 @@
--- What the store promises of its calls on any memory, damaged or not, beyond each call's own equation: the named laws of document 01 that
--- speak of more than one outcome. One record, a field a sentence; proofs/Promises.antt has its one value.
+-- What the store promises of its calls on any memory, damaged or not, beyond each call's own equation: the named laws
+-- of document 01 that speak of more than one outcome. One record, a field a sentence; proofs/Promises.antt has its one
+-- value.
 use Prim.Native.Nat.{ℕ, _+_, _<_}
 use mathlib.Core.Path.{_≡_}
 use mathlib.Core.Bool.{true}
@@ -24,8 +25,8 @@ use Rattle.store.specs.Append.{Out, declined, tableGrown, appendOf}
 
 -- ---- a new name entered
 
--- an append has entered a name: a bucket of the standing table that was empty, after any growth, now has the name's hash and the address of a
--- record whose key is the name; and one key more is counted
+-- RULES Q1. An append has entered a name: a bucket of the standing table that was empty, after any growth, now has the
+-- name's hash and the address of a record whose key is the name; and one key more is counted
 pub record Entered (st : State) (m : Lent) (name : List ℕ) (st′ : State) (m′ : Lent) : Type 0 where
   pub bucket : ℕ
   pub below : bucket < st′ .buckets
@@ -36,6 +37,7 @@ pub record Entered (st : State) (m : Lent) (name : List ℕ) (st′ : State) (m�
 
 -- ---- the promises
 
+-- RULES B7, Q1, X4.
 pub record Promises : Type 0 where
   -- "Nothing lent changes on a refusal; the state comes back equal."
   pub create-refused : (capacity seed : ℕ) (table : List ℕ) (keyBytes listBytes n : ℕ)
@@ -48,7 +50,8 @@ pub record Promises : Type 0 where
   -- nor does an absent lane's reading write
   pub read-absent : (st : State) (m : Lent) (name output : List ℕ)
       → readOf st m name output .answer ≡ Absent → readOf st m name output ≡ reading Absent output
-  -- what an accepted creation or append gives passes the whole-state check, or the next call would be refused for what this one did
+  -- what an accepted creation or append gives passes the whole-state check, or the next call would be refused for what
+  -- this one did
   pub create-whole : (capacity seed : ℕ) (table keys lists : List ℕ) (st : State)
       → createOf capacity seed table (length keys) (length lists) .answer ≡ Made st
       → checked st (lent (createOf capacity seed table (length keys) (length lists) .table) keys lists) ≡ true
@@ -60,6 +63,7 @@ pub record Promises : Type 0 where
 
 -- ---- "that two permitted outcomes coincide is itself proved": of each call, two outcomes that meet its contract are equal
 
+-- RULES X8.
 pub record Settled : Type 0 where
   pub create-settled : (capacity seed : ℕ) (table : List ℕ) (keyBytes listBytes : ℕ) (x y : Creation)
       → x ≡ createOf capacity seed table keyBytes listBytes → y ≡ createOf capacity seed table keyBytes listBytes → x ≡ y

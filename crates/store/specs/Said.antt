@@ -19,39 +19,46 @@ use Rattle.store.specs.declared.Listed.the-variants.{Bucket, NoMore, Sto
 use Rattle.store.specs.declared.Counted.{Counted}
 use Rattle.store.specs.declared.Counted.the-variants.{Keys, Unknown}
 
+-- RULES X7.
 abbrev pub saidCreated : Created → Said
 saidCreated (Made st) = answered created []
 saidCreated (Barred n) = refused n []
 
+-- RULES X7.
 abbrev pub saidAppended : Appended → Said
 saidAppended (Accepted st) = answered accepted []
 saidAppended (Declined st n) = refused n []
 
+-- RULES X7.
 abbrev pub saidLookup : Lookup → Said
 saidLookup (At at) = answered aPlace (at ∷ [])
 saidLookup Missing = answered absent []
 saidLookup (Failed n) = refused n []
 
+-- RULES X7.
 abbrev pub saidOutcome : Outcome → Said
 saidOutcome (Length n) = answered aLength (n ∷ [])
 saidOutcome (Reading n) = answered aReading (n ∷ [])
 saidOutcome (Block at n) = answered aBlock (at ∷ n ∷ [])
 saidOutcome NoSuchBlock = answered noSuchBlock []
 
--- "the length is told" with 8, and nothing with any other number
+-- RULES X7. "The length is told" with 8, and nothing with any other number.
 abbrev pub toldWith : ℕ → ℕ → List ℕ
 toldWith n told = cond (eqb n 8) (told ∷ []) []
 
+-- RULES X7.
 abbrev pub saidAnswer : Answer → Said
 saidAnswer Absent = answered absent []
 saidAnswer (Found o) = saidOutcome o
 saidAnswer (Refused n told) = refused n (toldWith n told)
 
+-- RULES X7.
 abbrev pub saidListed : Listed → Said
 saidListed (Bucket i at) = answered aBucket (i ∷ at ∷ [])
 saidListed NoMore = answered noBucket []
 saidListed (Stopped n) = refused n []
 
+-- RULES X7.
 abbrev pub saidCounted : Counted → Said
 saidCounted (Keys n) = answered aCount (n ∷ [])
 saidCounted (Unknown n) = refused n []

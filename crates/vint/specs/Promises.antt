@@ -8,6 +8,7 @@ use Rattle.numbers.specs.LittleEndian.{Bytes}
 use Rattle.vint.specs.declared.Unvint.the-variants.{Number}
 use Rattle.vint.specs.Vint.{writeVint, TopOnLast, readVint}
 
+-- RULES K5. With it what K1 and K2 say of the writer.
 pub record Promises : Type 0 where
   -- RULES K5. "A number written as a vint reads back as itself", whatever follows, and takes the bytes written.
   pub read-back : (n : ℕ) (rest : List ℕ) → n < 2 ^ 32 → readVint (writeVint n ++ rest) ≡ Number n (length (writeVint n))

@@ -61,20 +61,21 @@ answerOf unended = Refused 11
 abbrev pub readVint : List ℕ → Unvint
 readVint bs = answerOf (takeVint vintLimit bs)
 
--- what the reader's answer says
+-- RULES X7. What the reader's answer says.
 abbrev pub saidUnvint : Unvint → Said
 saidUnvint (Number v k) = answered aNumber (v ∷ k ∷ [])
 saidUnvint (Refused n) = refused n []
 
--- a row a case: what the call says then
+-- RULES X7. A row a case: what the call says then.
 pub said-cases : (saidUnvint (readVint (0x2C ∷ 0x82 ∷ [])) ≡ answered aNumber (300 ∷ 2 ∷ []))
     × (saidUnvint (readVint (0x2C ∷ [])) ≡ refused 11 [])
 unfolding takeVint
 said-cases = (refl, refl)
 
--- the promises permit one outcome each
+-- RULES X8. The promises permit one outcome each.
 pub vint-settled : (n : ℕ) {x y : Vint} → x ≡ vintOf n → y ≡ vintOf n → x ≡ y
 vint-settled n p q = one-outcome p q
 
+-- RULES X8.
 pub unvint-settled : (bs : List ℕ) {x y : Unvint} → x ≡ readVint bs → y ≡ readVint bs → x ≡ y
 unvint-settled bs p q = one-outcome p q

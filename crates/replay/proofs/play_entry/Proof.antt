@@ -1,61 +1,45 @@
 use Rattle.spans.specs.Span.{readSpan}
 use Rattle.store.specs.Look.{lent}
 use Rattle.replay.specs.Script.{world}
-use Rattle.history.specs.History.{World, stateAfter, left}
-use mathlib.Core.Path.{_≡_, refl, ap, _∙_}
+use Rattle.history.specs.History.{left}
+use mathlib.Core.Path.{ap, _∙_}
 use borrow.Author.Needs.{needs}
 use Rattle.replay.proofs.play_entry.Statement.{statement}
 use Rattle.replay.proofs.play_entry.Tie as tie
-use Rattle.replay.proofs.play_entry.Reads as reads
-use Rattle.replay.proofs.play_entry.Lts as lts
-use Rattle.replay.proofs.state_of.Reads as state-of-reads
-use Rattle.store.proofs.write.append.Reads as append-reads
 
--- src/lib.rt:57:58
 sub-append : tie.Need-sub-append
 sub-append c = search needs
 
--- src/lib.rt:57:58
 part-append-start : tie.Need-part-append-start
 part-append-start c = search needs
 
--- src/lib.rt:57:58
 part-append-end : tie.Need-part-append-end
 part-append-end c = search needs
 
--- src/lib.rt:57:83
 sub-append-2 : tie.Need-sub-append-2
 sub-append-2 c = search needs
 
--- src/lib.rt:57:83
 part-append-start-2 : tie.Need-part-append-start-2
 part-append-start-2 c = search needs
 
--- src/lib.rt:57:83
 part-append-end-2 : tie.Need-part-append-end-2
 part-append-end-2 c = search needs
 
--- src/lib.rt:57:9
 append-requires : tie.Need-append-requires
 append-requires c κs = search needs
 
--- src/lib.rt:58:5
 state-of-requires : tie.Need-state-of-requires
 state-of-requires c κs = search needs
 
--- src/lib.rt:53:1
 same-length : tie.Need-same-length
 same-length c = search needs
 
--- src/lib.rt:53:1
 same-length-2 : tie.Need-same-length-2
 same-length-2 c = search needs
 
--- src/lib.rt:53:1
 same-length-3 : tie.Need-same-length-3
 same-length-3 c = search needs
 
--- src/lib.rt:53:1
 returns : tie.Need-returns
 unfolding readSpan
 returns c =

@@ -1,6 +1,6 @@
 use Rattle.replay.specs.declared.Entry.{Entry}
 use Rattle.replay.proofs.Laws.{turn-ends, turn-plays, turns-over}
-use Rattle.replay.specs.Script.{world, entryAt, Inside, callsOf, callsFrom, played}
+use Rattle.replay.specs.Script.{world, Inside, callsOf, callsFrom}
 use Rattle.history.specs.History.{play}
 use Rattle.store.specs.Look.{lent}
 use borrow.Author.Needs.{needs}
@@ -10,10 +10,6 @@ use mathlib.Core.Path.{_≡_, refl, sym, ap, _∙_, subst}
 use Prim.Native.Nat.{_-_, _≤_}
 use Rattle.replay.proofs.play_script.Statement.{statement}
 use Rattle.replay.proofs.play_script.Tie as tie
-use Rattle.replay.proofs.play_script.Reads as reads
-use Rattle.replay.proofs.play_script.Lts as lts
-use Rattle.replay.proofs.entry_at.Reads as entry-at-reads
-use Rattle.replay.proofs.play_entry.Reads as play-entry-reads
 
 abbrev Inv-loop : tie.InvT-loop
 Inv-loop table₀ keys₀ lists₀ script state₀ at₀ turns₀ table keys lists state at turns =
@@ -23,55 +19,42 @@ Inv-loop table₀ keys₀ lists₀ script state₀ at₀ turns₀ table keys lis
 abbrev μ-loop : tie.MeasureT-loop
 μ-loop table₀ keys₀ lists₀ script state₀ at₀ turns₀ table keys lists state at turns = turns
 
--- src/lib.rt:68:5
 loop-holds : tie.Need-loop-holds Inv-loop μ-loop
 loop-holds c = (omega arith, (refl, (refl, (refl, refl))))
 
--- src/lib.rt:69:13
 entry-at-requires : tie.Need-entry-at-requires Inv-loop μ-loop
 entry-at-requires c κs = c .before .loop .inv .0
 
--- src/lib.rt:70:26
 enum-known-e : tie.Need-enum-known-e Inv-loop μ-loop
 enum-known-e c = search needs
 
--- src/lib.rt:71:13
 enum-told : tie.Need-enum-told Inv-loop μ-loop
 enum-told c = search needs
 
--- src/lib.rt:71:13
 same-length : tie.Need-same-length Inv-loop μ-loop
 same-length c = c .before .before .before .before .loop .inv .1 .0
 
--- src/lib.rt:71:13
 same-length-2 : tie.Need-same-length-2 Inv-loop μ-loop
 same-length-2 c = c .before .before .before .before .loop .inv .1 .1 .0
 
--- src/lib.rt:71:13
 same-length-3 : tie.Need-same-length-3 Inv-loop μ-loop
 same-length-3 c = c .before .before .before .before .loop .inv .1 .1 .1 .0
 
--- src/lib.rt:71:13
 returns : tie.Need-returns Inv-loop μ-loop
 returns c = let l = c .before .before .before .before .loop in sym (l .inv .1 .1 .1 .1 ∙ turn-ends (c .before .before .before .before .before .before .before .before .before .args .script .now) (l .at) (l .turns) (world (l .state) (lent (l .table) (l .keys) (l .lists))) (sym (c .enum-told .given .1) ∙ c .before .before .entry-at .ensures .0))
 
--- src/lib.rt:73:63
 add-play-entry : tie.Need-add-play-entry Inv-loop μ-loop
 add-play-entry c = search needs
 
--- src/lib.rt:73:9
 play-entry-requires : tie.Need-play-entry-requires Inv-loop μ-loop
 play-entry-requires c κs = subst (λ (e : Entry). Inside (length (c .before .before .before .before .before .before .before .before .before .before .before .before .before .args .script .now)) (c .before .before .before .before .before .before .before .before .loop .at) e) (c .before .before .before .before .e .given .1) (c .before .before .before .before .before .before .entry-at .ensures .1)
 
--- src/lib.rt:75:17
 sub-turns : tie.Need-sub-turns Inv-loop μ-loop
 sub-turns c = search needs
 
--- src/lib.rt:68:5
 loop-less : tie.Need-loop-less Inv-loop μ-loop
 loop-less c = search needs
 
--- src/lib.rt:68:5
 loop-again : tie.Need-loop-again Inv-loop μ-loop
 loop-again c =
     let l = c .before .before .before .before .before .before .before .before .before .before .before .before .before .before .before .loop in
@@ -93,19 +76,15 @@ loop-again c =
       ),
     )
 
--- src/lib.rt:62:1
 same-length-4 : tie.Need-same-length-4 Inv-loop μ-loop
 same-length-4 c = c .before .loop .inv .1 .0
 
--- src/lib.rt:62:1
 same-length-5 : tie.Need-same-length-5 Inv-loop μ-loop
 same-length-5 c = c .before .loop .inv .1 .1 .0
 
--- src/lib.rt:62:1
 same-length-6 : tie.Need-same-length-6 Inv-loop μ-loop
 same-length-6 c = c .before .loop .inv .1 .1 .1 .0
 
--- src/lib.rt:62:1
 returns-2 : tie.Need-returns-2 Inv-loop μ-loop
 returns-2 c = let l = c .before .loop in sym (l .inv .1 .1 .1 .1 ∙ turns-over (c .before .before .before .before .before .before .args .script .now) (l .at) (l .turns) (world (l .state) (lent (l .table) (l .keys) (l .lists))) (c .loop-test .left))
 

@@ -1,24 +1,18 @@
 use Rattle.history.specs.History.{stateAfter}
-use mathlib.Core.Path.{_≡_, sym, ap}
+use mathlib.Core.Path.{sym, ap}
 use borrow.Author.Needs.{needs}
 use Rattle.replay.proofs.state_of.Statement.{statement}
 use Rattle.replay.proofs.state_of.Tie as tie
-use Rattle.replay.proofs.state_of.Reads as reads
-use Rattle.replay.proofs.state_of.Lts as lts
 
--- src/lib.rt:53:28
 enum-known-a : tie.Need-enum-known-a
 enum-known-a c = search needs
 
--- src/lib.rt:54:28
 enum-known-a-2 : tie.Need-enum-known-a-2
 enum-known-a-2 c = search needs
 
--- src/lib.rt:49:1
 returns : tie.Need-returns
 returns c = search needs
 
--- src/lib.rt:49:1
 returns-2 : tie.Need-returns-2
 returns-2 c = sym (ap stateAfter (c .before .a2 .given .1))
 
