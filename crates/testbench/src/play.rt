@@ -1,73 +1,38 @@
-// A line, played on the lent areas.
-use crate::calls::Done;
+// The lines, played on the lent areas.
+use bench_state::Done;
+use script::lines;
+use script::lines::Lines;
 use store::State;
-ghost use Prim.Native.Nat.{_≤_};
-ghost use lib.ListN.{length};
+use text::fault;
+ghost use Prim.Native.Nat.{_<_};
 
-// What the testbench remembers between lines: the store's state, how much of each area is lent, up to where the answers are gathered, and how
-// much is held of a line that hasn't ended (`long` where there was more of it than a line may have).
-pub struct Bench {
-    pub st: State,
-    pub words: usize,
-    pub key_bytes: usize,
-    pub list_bytes: usize,
-    pub at: usize,
-    pub held: usize,
-    pub long: bool,
+// What the testbench remembers between lines: the store's state, how much of each area is lent, and up to where the
+// answers are gathered.
+struct Bench {
+    st: State,
+    words: usize,
+    key_bytes: usize,
+    list_bytes: usize,
+    at: usize,
 }
 
-pub fn fresh() -> Bench {
+fn fresh() -> Bench {
     Bench {
-        st: crate::state::zeros(),
+        st: bench_state::zeros(),
         words: 0,
         key_bytes: 0,
         list_bytes: 0,
         at: 0,
-        held: 0,
-        long: false,
     }
 }
 
-fn said(st: State, at: usize) -> Done {
-    Done { st, at }
-}
-
-pub fn with_at(b: Bench, at: usize) -> Bench {
+fn with_at(b: Bench, at: usize) -> Bench {
     let mut next = b;
     next.at = at;
     next
 }
 
-fn with_fault(b: Bench, out: &mut [u8], fault: u32) -> Bench {
-    with_at(b, crate::fault::say(out, b.at, fault))
-}
-
-// The byte of two hex digits, 256 for any other word.
-fn byte_of(word: &[u8]) -> u32 {
-    if word.len() != 2 {
-        return 256;
-    }
-    crate::words::pair(word[0], word[1])
-}
-
-// Lends the first parts of the memory, filled with a byte.
-fn lend_parts(
-    words: usize,
-    key_bytes: usize,
-    list_bytes: usize,
-    b: u8,
-    table: &mut [u32],
-    keys: &mut [u8],
-    lists: &mut [u8],
-)
-    requires { ⌜ (words ≤ length (now table)) × ((«key_bytes» ≤ length (now keys)) × («list_bytes» ≤ length (now lists))) ⌝ }
-{
-    crate::areas::fill_words(&mut table[0..words], b);
-    crate::words::fill(&mut keys[0..key_bytes], b);
-    crate::words::fill(&mut lists[0..list_bytes], b);
-}
-
-// `lend WORDS KEYBYTES LISTBYTES HH`
+// `lend WORDS KEYBYTES LISTBYTES HH`: the state is of zeros then.
 fn lend(
     b: Bench,
     line: &[u8],
@@ -76,124 +41,26 @@ fn lend(
     lists: &mut [u8],
     out: &mut [u8],
 ) -> Bench {
-    let g = crate::words::first_numbers(line, 3);
-    let byte = byte_of(crate::words::word(line, 4));
-    if g.fault != 0 {
-        return with_fault(b, out, g.fault);
+    let p = bench_areas::lend(line, table, keys, lists);
+    if p.fault != 0 {
+        return with_at(b, say::fault(out, b.at, p.fault));
     }
-    if 255 < byte {
-        return with_fault(b, out, crate::fault::NOT_BYTES);
-    }
-    if (table.len() as u64) < g.a {
-        return with_fault(b, out, crate::fault::NO_MEMORY);
-    }
-    if (keys.len() as u64) < g.b {
-        return with_fault(b, out, crate::fault::NO_MEMORY);
-    }
-    if (lists.len() as u64) < g.c {
-        return with_fault(b, out, crate::fault::NO_MEMORY);
-    }
-    lend_parts(
-        g.a as usize,
-        g.b as usize,
-        g.c as usize,
-        byte as u8,
-        table,
-        keys,
-        lists,
-    );
     Bench {
-        st: crate::state::zeros(),
-        words: g.a as usize,
-        key_bytes: g.b as usize,
-        list_bytes: g.c as usize,
-        at: crate::say::line(out, b.at, b"lent"),
-        held: 0,
-        long: false,
+        st: bench_state::zeros(),
+        words: p.words,
+        key_bytes: p.key_bytes,
+        list_bytes: p.list_bytes,
+        at: say::line(out, b.at, b"lent"),
     }
 }
 
-// The store's calls that change nothing but an output.
-fn ask(
-    id: u32,
-    st: State,
-    line: &[u8],
-    table: &[u32],
-    keys: &[u8],
-    lists: &[u8],
-    name: &mut [u8],
-    output: &mut [u8],
-    out: &mut [u8],
-    at: usize,
-) -> usize {
-    match id {
-        4 => crate::calls::lookup(st, line, table, keys, lists, name, out, at),
-        5 => crate::calls::length(st, line, table, keys, lists, name, out, at),
-        6 => crate::calls::read(st, line, table, keys, lists, name, output, out, at),
-        7 => crate::calls::block(st, line, table, keys, lists, name, out, at),
-        8 => crate::calls::show(st, line, table, keys, lists, out, at),
-        9 => crate::calls::next(st, line, table, keys, lists, out, at),
-        10 => crate::calls::count(st, table, keys, lists, out, at),
-        11 => crate::state::tell(st, out, at),
-        14 => crate::areas::dump(line, table, keys, lists, out, at),
-        _ => crate::areas::sum(st, table, keys, lists, output, out, at),
-    }
+fn said(st: State, at: usize) -> Done {
+    Done { st, at }
 }
 
-// The calls below the store, and help.
-fn lower(
-    id: u32,
-    line: &[u8],
-    lists: &mut [u8],
-    name: &mut [u8],
-    output: &mut [u8],
-    out: &mut [u8],
-    at: usize,
-) -> usize {
-    match id {
-        16 => crate::leaves::hash(line, name, out, at),
-        17 => crate::leaves::vint(line, out, at),
-        18 => crate::leaves::unvint(line, name, out, at),
-        19 => crate::leaves::equal(line, name, output, out, at),
-        20 => crate::leaves::copy(line, name, output, out, at),
-        21 => crate::leaves::allocate(line, lists, out, at),
-        22 => crate::leaves::get(line, lists, output, out, at),
-        23 => crate::leaves::put(line, lists, name, out, at),
-        _ => crate::command::help(out, at),
-    }
-}
-
-// `set FIELD NUMBER`
-fn set(st: State, line: &[u8], out: &mut [u8], at: usize) -> Done {
-    let s = crate::state::set_number(st, line);
-    let next = s.st;
-    let fault = s.fault;
-    if fault != 0 {
-        return said(st, crate::fault::say(out, at, fault));
-    }
-    said(next, crate::say::line(out, at, b"set"))
-}
-
-// `poke AREA PLACE BYTES-or-WORD`
-fn poke(
-    line: &[u8],
-    table: &mut [u32],
-    keys: &mut [u8],
-    lists: &mut [u8],
-    name: &mut [u8],
-    out: &mut [u8],
-    at: usize,
-) -> usize {
-    let fault = crate::areas::poke(line, table, keys, lists, name);
-    if fault != 0 {
-        return crate::fault::say(out, at, fault);
-    }
-    crate::say::line(out, at, b"poked")
-}
-
-// A command on the lent areas.
+// The command of a number, on the lent areas.
 fn play(
-    id: u32,
+    k: u64,
     st: State,
     line: &[u8],
     table: &mut [u32],
@@ -204,31 +71,35 @@ fn play(
     out: &mut [u8],
     at: usize,
 ) -> Done {
-    if id == 2 {
-        return crate::calls::create(st, line, table, keys, lists, out, at);
+    match k / 10 {
+        1 => bench_write::play(k, st, line, table, keys, lists, name, output, out, at),
+        2 => said(
+            st,
+            bench_read::play(k, st, line, table, keys, lists, name, output, out, at),
+        ),
+        3 => bench_state::play(k, st, line, out, at),
+        4 => said(
+            st,
+            bench_areas::play(k, st, line, table, keys, lists, name, output, out, at),
+        ),
+        5 => said(st, bench_lower::play(k, line, lists, name, output, out, at)),
+        _ => said(st, crate::commands::help(out, at)),
     }
-    if id == 3 {
-        return crate::calls::append(st, line, table, keys, lists, name, output, out, at);
-    }
-    if id == 12 {
-        return set(st, line, out, at);
-    }
-    if id == 13 {
-        return said(st, poke(line, table, keys, lists, name, out, at));
-    }
-    if 16 <= id {
-        return said(st, lower(id, line, lists, name, output, out, at));
-    }
-    said(
-        st,
-        ask(id, st, line, table, keys, lists, name, output, out, at),
-    )
+}
+
+fn with_done(b: Bench, d: Done) -> Bench {
+    let st = d.st;
+    let at = d.at;
+    let mut next = b;
+    next.st = st;
+    next.at = at;
+    next
 }
 
 // A command on what is lent of the memory.
 fn play_lent(
     b: Bench,
-    id: u32,
+    k: u64,
     line: &[u8],
     table: &mut [u32],
     keys: &mut [u8],
@@ -238,11 +109,11 @@ fn play_lent(
     out: &mut [u8],
 ) -> Bench {
     let st = b.st;
-    let words = crate::words::least(b.words, table.len());
-    let key_bytes = crate::words::least(b.key_bytes, keys.len());
-    let list_bytes = crate::words::least(b.list_bytes, lists.len());
+    let words = text::least(b.words, table.len());
+    let key_bytes = text::least(b.key_bytes, keys.len());
+    let list_bytes = text::least(b.list_bytes, lists.len());
     let done = play(
-        id,
+        k,
         st,
         line,
         &mut table[0..words],
@@ -253,33 +124,35 @@ fn play_lent(
         out,
         b.at,
     );
-    let next = done.st;
-    Bench {
-        st: next,
-        words,
-        key_bytes,
-        list_bytes,
-        at: done.at,
-        held: 0,
-        long: false,
-    }
-}
-
-fn with_usage(b: Bench, out: &mut [u8], id: u32) -> Bench {
-    let place = crate::say::text(out, b.at, b"? usage: ");
-    with_at(b, crate::command::say_usage(out, place, id))
-}
-
-fn is_passed_over(line: &[u8]) -> bool {
-    if line.len() == 0 {
-        return true;
-    }
-    line[0] == b'#'
+    with_done(b, done)
 }
 
 // A line of any kind.
-pub fn play_line(
+fn play_line(
     b: Bench,
+    line: &[u8],
+    is_long: bool,
+    table: &mut [u32],
+    keys: &mut [u8],
+    lists: &mut [u8],
+    name: &mut [u8],
+    output: &mut [u8],
+    out: &mut [u8],
+) -> Bench {
+    let k = crate::commands::number_of(line, is_long);
+    if k == 0 {
+        return with_at(b, crate::commands::say_fault(out, b.at, line, is_long));
+    }
+    if k == 1 {
+        return lend(b, line, table, keys, lists, out);
+    }
+    play_lent(b, k, line, table, keys, lists, name, output, out)
+}
+
+// The line that was read.
+fn play_next(
+    b: Bench,
+    l: Lines,
     line: &[u8],
     table: &mut [u32],
     keys: &mut [u8],
@@ -288,26 +161,73 @@ pub fn play_line(
     output: &mut [u8],
     out: &mut [u8],
 ) -> Bench {
-    if is_passed_over(line) {
-        return b;
-    }
-    let id = crate::command::command_of(line);
-    if id == 0 {
-        return with_fault(b, out, crate::fault::UNKNOWN);
-    }
-    if crate::words::count(line) != crate::command::words_of(id) {
-        return with_usage(b, out, id);
-    }
-    if id == crate::command::LEND {
-        return lend(b, line, table, keys, lists, out);
-    }
-    play_lent(b, id, line, table, keys, lists, name, output, out)
+    let n = text::least(l.held, line.len());
+    play_line(
+        with_at(b, l.at),
+        &line[0..n],
+        l.long,
+        table,
+        keys,
+        lists,
+        name,
+        output,
+        out,
+    )
 }
 
-// The answer to a line that is too long, of which the first part is held.
-pub fn play_long(b: Bench, held: &[u8], out: &mut [u8]) -> Bench {
-    if is_passed_over(held) {
-        return b;
+// One turn less, or none where nothing more may come.
+fn turns_left(turns: u64, more: bool) -> u64
+    requires { ⌜ 0 < turns ⌝ }
+    ensures { λ r. ⌜ r < turns ⌝ }
+{
+    if more {
+        return turns - 1;
     }
-    with_fault(b, out, crate::fault::LINE_TOO_LONG)
+    0
+}
+
+// Plays all of standard input. A proved loop has to end, and nothing says that the input does: the loop counts its
+// turns down from a number that no run uses up.
+fn play_input(
+    chunk: &mut [u8],
+    line: &mut [u8],
+    table: &mut [u32],
+    keys: &mut [u8],
+    lists: &mut [u8],
+    name: &mut [u8],
+    output: &mut [u8],
+    out: &mut [u8],
+) {
+    let mut bench = fresh();
+    let mut lines = lines::none();
+    let mut turns = u64::MAX;
+    while 0 < turns {
+        lines = lines::next(lines, chunk, line, out, bench.at);
+        bench = play_next(bench, lines, line, table, keys, lists, name, output, out);
+        turns = turns_left(turns, lines.more);
+    }
+    say::flush(out, bench.at);
+}
+
+// The testbench over its memory.
+pub fn run(
+    table: &mut [u32; 131072],
+    keys: &mut [u8; 2097152],
+    lists: &mut [u8; 3145728],
+    name: &mut [u8; 262144],
+    output: &mut [u8; 1048576],
+) {
+    let mut chunk = io::large_buffer();
+    let mut line = io::large_buffer();
+    let mut out = io::large_buffer();
+    play_input(
+        &mut chunk,
+        &mut line,
+        table,
+        keys,
+        lists,
+        name,
+        output,
+        &mut out,
+    );
 }

@@ -1,0 +1,302 @@
+// The testbench's commands that read a store: lookup, length, read, block, show, next, count.
+//
+// Each reads its words, makes one call and says what it answered. It promises that it ends and stays inside what is
+// lent, whatever the line, the state and the memory are; what the call answers, store promises. It uses memory_arena
+// (the state's type), store, text and say.
+use store::Answer;
+use store::Counted;
+use store::Listed;
+use store::Lookup;
+use store::Outcome;
+use store::State;
+use text::fault;
+use text::words;
+ghost use Prim.Native.Nat.{_≤_};
+ghost use lib.ListN.{length};
+
+fn say_lookup(l: Lookup, out: &mut [u8], at: usize) -> usize {
+    match l {
+        Lookup::At(place) => say::number(out, at, b"at ", place as u64),
+        Lookup::Missing => say::line(out, at, b"absent"),
+        Lookup::Failed(n) => say::refused(out, at, n),
+    }
+}
+
+// `lookup NAME`
+fn lookup(
+    st: State,
+    line: &[u8],
+    table: &[u32],
+    keys: &[u8],
+    lists: &[u8],
+    name: &mut [u8],
+    out: &mut [u8],
+    at: usize,
+) -> usize {
+    let a = words::bytes(line, 1, name);
+    if a.fault != 0 {
+        return say::fault(out, at, a.fault);
+    }
+    let n = a.n;
+    say_lookup(
+        store::look::lookup(st, table, keys, lists, &name[0..n]),
+        out,
+        at,
+    )
+}
+
+fn say_outcome(o: Outcome, out: &mut [u8], at: usize) -> usize {
+    match o {
+        Outcome::Length(n) => say::told(out, at, b"length ", n),
+        Outcome::Reading(n) => say::told(out, at, b"reading ", n),
+        Outcome::Block(place, n) => {
+            let first = say::told(out, at, b"block ", place as u64);
+            say::told(out, first, b" ", n)
+        }
+        Outcome::NoSuchBlock => say::text(out, at, b"no such block"),
+    }
+}
+
+// A refusal; 8 tells a length beside its number.
+fn say_refusal(n: u32, told: u64, out: &mut [u8], at: usize) -> usize {
+    let first = say::told(out, at, b"refused ", n as u64);
+    if n == 8 {
+        return say::told(out, first, b" ", told);
+    }
+    first
+}
+
+// An answer by name, without the end of its line.
+fn say_answer(a: Answer, out: &mut [u8], at: usize) -> usize {
+    match a {
+        Answer::Absent => say::text(out, at, b"absent"),
+        Answer::Found(o) => say_outcome(o, out, at),
+        Answer::Refused(n, told) => say_refusal(n, told, out, at),
+    }
+}
+
+// `length NAME`
+fn length(
+    st: State,
+    line: &[u8],
+    table: &[u32],
+    keys: &[u8],
+    lists: &[u8],
+    name: &mut [u8],
+    out: &mut [u8],
+    at: usize,
+) -> usize {
+    let a = words::bytes(line, 1, name);
+    if a.fault != 0 {
+        return say::fault(out, at, a.fault);
+    }
+    let n = a.n;
+    let place = say_answer(
+        store::look::length(st, table, keys, lists, &name[0..n]),
+        out,
+        at,
+    );
+    say::byte(out, place, b'\n')
+}
+
+// `block NAME INDEX`
+fn block(
+    st: State,
+    line: &[u8],
+    table: &[u32],
+    keys: &[u8],
+    lists: &[u8],
+    name: &mut [u8],
+    out: &mut [u8],
+    at: usize,
+) -> usize {
+    let a = words::bytes(line, 1, name);
+    let index = words::number_at(line, 2);
+    let fault = fault::first(a.fault, index.fault);
+    if fault != 0 {
+        return say::fault(out, at, fault);
+    }
+    let n = a.n;
+    let answer = store::look::find_block(st, table, keys, lists, &name[0..n], index.value as usize);
+    let place = say_answer(answer, out, at);
+    say::byte(out, place, b'\n')
+}
+
+// Whether all bytes are still what the output was filled with.
+fn is_kept(area: &[u8]) -> bool {
+    let mut i = 0;
+    while i < area.len() {
+        if area[i] != 0xee {
+            return false;
+        }
+        i += 1;
+    }
+    true
+}
+
+fn say_kept(area: &[u8], out: &mut [u8], at: usize) -> usize {
+    if is_kept(area) {
+        return say::line(out, at, b" kept");
+    }
+    say::line(out, at, b" changed")
+}
+
+// How many bytes an answer has read.
+fn bytes_read(a: Answer) -> usize {
+    let Answer::Found(o) = a else {
+        return 0;
+    };
+    let Outcome::Reading(n) = o else {
+        return 0;
+    };
+    n as usize
+}
+
+// A reading that was made: its bytes, and whether those behind them are kept.
+fn say_read(n: usize, output: &[u8], out: &mut [u8], at: usize) -> usize {
+    let k = text::least(n, output.len());
+    let space = say::byte(out, at, b' ');
+    let shown = say::bytes(out, space, &output[0..k]);
+    say_kept(&output[k..], out, shown)
+}
+
+// A reading's answer.
+fn say_reading(a: Answer, output: &[u8], out: &mut [u8], at: usize) -> usize {
+    let said = say_answer(a, out, at);
+    let Answer::Found(_) = a else {
+        return say_kept(output, out, said);
+    };
+    say_read(bytes_read(a), output, out, said)
+}
+
+// A reading into an output, which is filled with ee before.
+fn read_into(
+    st: State,
+    table: &[u32],
+    keys: &[u8],
+    lists: &[u8],
+    name: &[u8],
+    output: &mut [u8],
+    out: &mut [u8],
+    at: usize,
+) -> usize {
+    text::fill(output, 0xee);
+    let answer = store::look::read(st, table, keys, lists, name, output);
+    say_reading(answer, output, out, at)
+}
+
+// `read NAME ROOM`
+fn read(
+    st: State,
+    line: &[u8],
+    table: &[u32],
+    keys: &[u8],
+    lists: &[u8],
+    name: &mut [u8],
+    output: &mut [u8],
+    out: &mut [u8],
+    at: usize,
+) -> usize {
+    let a = words::bytes(line, 1, name);
+    let room = words::length_at(line, 2, output.len(), fault::OUTPUT_TOO_LONG);
+    let fault = fault::first(a.fault, room.fault);
+    if fault != 0 {
+        return say::fault(out, at, fault);
+    }
+    let n = a.n;
+    let m = room.n;
+    read_into(
+        st,
+        table,
+        keys,
+        lists,
+        &name[0..n],
+        &mut output[0..m],
+        out,
+        at,
+    )
+}
+
+// `show PLACE LENGTH`
+fn show(
+    st: State,
+    line: &[u8],
+    table: &[u32],
+    keys: &[u8],
+    lists: &[u8],
+    out: &mut [u8],
+    at: usize,
+) -> usize {
+    let g = words::first_numbers(line, 2);
+    let fault = fault::first(g.fault, words::beyond_32(g.a));
+    if fault != 0 {
+        return say::fault(out, at, fault);
+    }
+    let shown = store::look::show_block(st, table, keys, lists, words::low_32(g.a), g.b as usize);
+    say::bytes_line(out, at, shown)
+}
+
+fn say_listed(l: Listed, out: &mut [u8], at: usize) -> usize {
+    match l {
+        Listed::Bucket(i, place) => {
+            let first = say::told(out, at, b"bucket ", i as u64);
+            say::number(out, first, b" ", place as u64)
+        }
+        Listed::NoMore => say::line(out, at, b"none"),
+        Listed::Stopped(n) => say::refused(out, at, n),
+    }
+}
+
+// `next INDEX`
+fn next(
+    st: State,
+    line: &[u8],
+    table: &[u32],
+    keys: &[u8],
+    lists: &[u8],
+    out: &mut [u8],
+    at: usize,
+) -> usize {
+    let index = words::number_at(line, 1);
+    if index.fault != 0 {
+        return say::fault(out, at, index.fault);
+    }
+    say_listed(
+        store::look::next_occupied(st, table, keys, lists, index.value as usize),
+        out,
+        at,
+    )
+}
+
+// `count`
+fn count(st: State, table: &[u32], keys: &[u8], lists: &[u8], out: &mut [u8], at: usize) -> usize {
+    let counted = store::look::key_count(st, table, keys, lists);
+    match counted {
+        Counted::Keys(n) => say::number(out, at, b"keys ", n as u64),
+        Counted::Unknown(n) => say::refused(out, at, n),
+    }
+}
+
+// The command of a number.
+pub fn play(
+    k: u64,
+    st: State,
+    line: &[u8],
+    table: &[u32],
+    keys: &[u8],
+    lists: &[u8],
+    name: &mut [u8],
+    output: &mut [u8],
+    out: &mut [u8],
+    at: usize,
+) -> usize {
+    match k {
+        20 => lookup(st, line, table, keys, lists, name, out, at),
+        21 => length(st, line, table, keys, lists, name, out, at),
+        22 => read(st, line, table, keys, lists, name, output, out, at),
+        23 => block(st, line, table, keys, lists, name, out, at),
+        24 => show(st, line, table, keys, lists, out, at),
+        25 => next(st, line, table, keys, lists, out, at),
+        _ => count(st, table, keys, lists, out, at),
+    }
+}

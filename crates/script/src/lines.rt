@@ -1,0 +1,109 @@
+// Standard input, cut into lines.
+use libc::STDIN_FILENO;
+ghost use Prim.Native.Nat.{_≤_};
+ghost use lib.ListN.{length};
+
+// What is known between two lines.
+pub struct Lines {
+    // what was read of the input and isn't taken yet: the chunk's bytes from `from` to `to`
+    pub from: usize,
+    pub to: usize,
+    // how much is held of the line, whether there was more of it than a line may have, and whether it has ended
+    pub held: usize,
+    pub long: bool,
+    pub whole: bool,
+    // whether the input may go on behind the line
+    pub more: bool,
+    // up to where answers are gathered
+    pub at: usize,
+}
+
+// Before the first line.
+pub fn none() -> Lines {
+    Lines {
+        from: 0,
+        to: 0,
+        held: 0,
+        long: false,
+        whole: false,
+        more: true,
+        at: 0,
+    }
+}
+
+// Holds a part of a line behind what is held of it, as far as a line may be long.
+fn hold(l: Lines, part: &[u8], line: &mut [u8]) -> Lines {
+    let n = text::least(l.held, line.len());
+    let k = text::least(part.len(), line.len() - n);
+    let long = l.long;
+    fastcpy::copy_in(line, n, &part[0..k]);
+    let mut next = l;
+    next.held = n + k;
+    next.long = long | (k < part.len());
+    next
+}
+
+// Takes what the chunk has of the line.
+fn take(l: Lines, chunk: &[u8], line: &mut [u8]) -> Lines {
+    let from = text::least(l.from, chunk.len());
+    let end = text::scan::find(chunk, from, b'\n');
+    let mut next = hold(l, &chunk[from..end], line);
+    next.whole = end < chunk.len();
+    next.from = end + 1;
+    next
+}
+
+// Reads on, after what was gathered is written out. Where nothing more comes, the line ends with the input.
+fn refill(l: Lines, chunk: &mut [u8], out: &[u8]) -> Lines {
+    say::flush(out, l.at);
+    let got = libc::read(STDIN_FILENO, chunk);
+    let n = io::count(got, chunk);
+    let mut next = l;
+    next.at = 0;
+    next.from = 0;
+    next.to = n;
+    next.more = 0 < n;
+    next.whole = n == 0;
+    next
+}
+
+// Takes what the chunk has, or reads on where that is all taken.
+fn step(l: Lines, chunk: &mut [u8], line: &mut [u8], out: &[u8]) -> Lines {
+    let to = text::least(l.to, chunk.len());
+    if l.from < to {
+        return take(l, &chunk[0..to], line);
+    }
+    refill(l, chunk, out)
+}
+
+// No line yet, behind what was taken.
+fn begun(l: Lines, at: usize) -> Lines {
+    let mut next = l;
+    next.held = 0;
+    next.long = false;
+    next.whole = false;
+    next.at = at;
+    next
+}
+
+// The next line of standard input, at the front of `line`; a last one that lacks its end too. What is gathered in `out`
+// up to `at` is written out before the input is waited for. A proved loop has to end, and nothing says that a line
+// does: the loop counts its turns down from a number that no run uses up.
+pub fn next(l: Lines, chunk: &mut [u8], line: &mut [u8], out: &[u8], at: usize) -> Lines {
+    let mut now = begun(l, at);
+    let mut turns = u64::MAX;
+    while 0 < turns {
+        now = step(now, chunk, line, out);
+        if now.whole {
+            return now;
+        }
+        turns -= 1;
+    }
+    now
+}
+
+// The bytes of a line that was read.
+pub fn held<'l>(l: Lines, line: &'l [u8]) -> &'l [u8] {
+    let n = text::least(l.held, line.len());
+    &line[0..n]
+}

@@ -1,0 +1,73 @@
+// The commands: one table, from which their names, their numbers of words and their usage texts come.
+use script::rows;
+use text::fault;
+
+// A row a command: its number, then how it is written. The tens of the number say whose `play` has its arm: 1
+// bench_write, 2 bench_read, 3 bench_areas, 4 bench_lower; those below 10 are this program's.
+const TABLE: [u8; 462] = *b"1 lend WORDS KEYBYTES LISTBYTES HH
+10 create CAPACITY SEED
+11 append NAME BYTES
+20 lookup NAME
+21 length NAME
+22 read NAME ROOM
+23 block NAME INDEX
+24 show PLACE LENGTH
+25 next INDEX
+26 count
+30 state
+31 set FIELD NUMBER
+40 poke AREA PLACE BYTES-or-WORD
+41 dump AREA PLACE COUNT
+42 sum
+50 hash SEED BYTES
+51 vint N
+52 unvint BYTES
+53 equal A B
+54 copy A B
+55 allocate PAGE USED LENGTH N
+56 get PAGE USED LENGTH PLACE N
+57 put PAGE USED LENGTH PLACE BYTES
+2 help
+";
+
+// Lines that are no command: empty ones, and those that begin with `#`.
+fn is_passed_over(line: &[u8]) -> bool {
+    if line.len() == 0 {
+        return true;
+    }
+    line[0] == b'#'
+}
+
+// The number of the command that a line is, 0 where it can't be played.
+pub fn number_of(line: &[u8], is_long: bool) -> u64 {
+    if is_long | is_passed_over(line) {
+        return 0;
+    }
+    rows::number_of(&TABLE, line)
+}
+
+// Why a line can't be played; nothing where it is passed over.
+pub fn say_fault(out: &mut [u8], at: usize, line: &[u8], is_long: bool) -> usize {
+    if is_passed_over(line) {
+        return at;
+    }
+    if is_long {
+        return say::fault(out, at, fault::LINE_TOO_LONG);
+    }
+    rows::say_fault(out, at, &TABLE, line)
+}
+
+// `help`: how words are written, then the commands, one to a line.
+pub fn help(out: &mut [u8], at: usize) -> usize {
+    let words = say::text(
+        out,
+        at,
+        b"# a command to a line, words one space apart; an empty line and one that begins with # are passed over
+# NUMBERS are decimal
+# BYTES and NAMES are hex pairs, - for none, N*HH for N times a byte, joined by +, or 'letters-and-digits
+# AREA is table (of words), keys or lists; FIELD is a name that state tells; end is 0 at the front, 1 at the back
+# allocate, get and put: the bare arena over the first LENGTH bytes of the lent list area
+",
+    );
+    rows::say_all(out, words, &TABLE)
+}
