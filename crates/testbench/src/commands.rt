@@ -3,7 +3,7 @@ use script::rows;
 use text::fault;
 
 // A row a command: its number, then how it is written. The tens of the number say whose `play` has its arm: 1
-// bench_write, 2 bench_read, 3 bench_areas, 4 bench_lower; those below 10 are this program's.
+// bench_write, 2 bench_read, 3 bench_state, 4 bench_areas, 5 bench_lower; those below 10 are this program's.
 const TABLE: [u8; 462] = *b"1 lend WORDS KEYBYTES LISTBYTES HH
 10 create CAPACITY SEED
 11 append NAME BYTES
