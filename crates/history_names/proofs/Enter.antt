@@ -19,7 +19,8 @@ use Rattle.history_names.specs.Table.{OneBucket, Enters}
 use Rattle.shared_arena_hashmap.proofs.Laws.{length-bucket}
 use Rattle.shared_arena_hashmap.proofs.Words.{bucket-word, bucket-address, bucket-hash, bucket-other}
 use Rattle.shared_arena_hashmap.proofs.Room.{next-below, start-below}
-use Rattle.history_names.proofs.Walk.{renamed, AllTaken, taken-count, fill-name, fill-taken, fill-reached, fill-only, fill-count}
+use Rattle.history_names.proofs.Walk.{renamed, AllTaken, taken-count, fill-name, fill-taken, fill-reached}
+use Rattle.history_names.proofs.Walk.{fill-only, fill-count}
 use Rattle.history_names.proofs.Lookup.{empty-bucket, named-bucket}
 
 -- ---- what entering writes, whatever the words

@@ -98,7 +98,8 @@ said-cases = (refl, refl, refl, refl, refl, refl, refl, refl)
 -- ---- the promises permit one outcome each
 
 -- RULES X8.
-pub allocate-settled : (a : Arena) (len n : ℕ) {x y : Allocated} → x ≡ allocateOf a len n → y ≡ allocateOf a len n → x ≡ y
+pub allocate-settled : (a : Arena) (len n : ℕ) {x y : Allocated}
+    → x ≡ allocateOf a len n → y ≡ allocateOf a len n → x ≡ y
 allocate-settled a len n p q = one-outcome p q
 
 -- RULES X8.
@@ -112,5 +113,6 @@ pub write-settled : (a : Arena) (pages : List ℕ) (at : ℕ) (bytes : List ℕ)
 write-settled a pages at bytes p q = one-outcome p q
 
 -- RULES X8.
-pub slice-settled : (a : Arena) (pages : List ℕ) (at n : ℕ) {x y : List ℕ} → x ≡ sliceOf a pages at n → y ≡ sliceOf a pages at n → x ≡ y
+pub slice-settled : (a : Arena) (pages : List ℕ) (at n : ℕ) {x y : List ℕ}
+    → x ≡ sliceOf a pages at n → y ≡ sliceOf a pages at n → x ≡ y
 slice-settled a pages at n p q = one-outcome p q

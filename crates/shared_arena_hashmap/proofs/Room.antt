@@ -19,7 +19,8 @@ use Rattle.shared_arena_hashmap.specs.declared.Seen.{Seen}
 use Rattle.shared_arena_hashmap.specs.declared.Seen.the-variants.{Nothing, Same, Broken, Other}
 use Rattle.shared_arena_hashmap.specs.declared.Met.the-variants.{Empty}
 use Rattle.shared_arena_hashmap.specs.declared.Walk.{Walk}
-use Rattle.shared_arena_hashmap.specs.Probe.{goodRecord, keyAt, seenRecord, seenAt, nextBucket, startOf, onSeen, probe, lookup}
+use Rattle.shared_arena_hashmap.specs.Probe.{goodRecord, keyAt, seenRecord, seenAt, nextBucket, startOf, onSeen}
+use Rattle.shared_arena_hashmap.specs.Probe.{probe, lookup}
 use Rattle.shared_arena_hashmap.specs.Grow.{freeFrom, freeOf, entered, reentered, allReentered, grown}
 use Rattle.shared_arena_hashmap.proofs.Words.{bucket-other, bucket-address, bucket-hash, clear-address}
 
@@ -39,7 +40,8 @@ unfolding empties AnEmpty
 an-empty t b zero h = absurd (omega arith)
 an-empty t b (suc n) h = go (emptyAt t b) refl h (an-empty t (b + 1) n)
   where
-    go : (e : Bool) → emptyAt t b ≡ e → 0 < cond e 1 0 + empties t (b + 1) n → (0 < empties t (b + 1) n → AnEmpty t (b + 1) n)
+    go : (e : Bool) → emptyAt t b ≡ e → 0 < cond e 1 0 + empties t (b + 1) n
+        → (0 < empties t (b + 1) n → AnEmpty t (b + 1) n)
         → AnEmpty t b (suc n)
     go true p h f = (0, omega arith, rw add-zero p)
     go false p h f =
@@ -74,7 +76,8 @@ unfolding freeFrom
 found-ahead t first l zero i j h k e (inl w) = absurd (omega arith)
 found-ahead t first l zero i j h k e (inr w) = absurd (omega arith)
 found-ahead t first l (suc n) i j h k e w =
-    go (emptyAt t (first + i)) refl (next-cases l i h) w (found-ahead t first l n (nextBucket l i) j (next-below l i h) k e)
+    go (emptyAt t (first + i)) refl (next-cases l i h) w
+    (found-ahead t first l n (nextBucket l i) j (next-below l i h) k e)
   where
     Found : ℕ → Type 0
     Found f = (f < l) × (emptyAt t (first + f) ≡ true)
@@ -82,7 +85,8 @@ found-ahead t first l (suc n) i j h k e w =
     not-here : emptyAt t (first + i) ≡ false → i ≢ j
     not-here p q = false≢true (sym p ∙ ap (λ (x : ℕ). emptyAt t (first + x)) q ∙ e)
 
-    go : (b : Bool) → emptyAt t (first + i) ≡ b → ((i + 1 ≡ l) × (nextBucket l i ≡ 0)) ⊎ ((i + 1 < l) × (nextBucket l i ≡ i + 1))
+    go : (b : Bool) → emptyAt t (first + i) ≡ b
+        → ((i + 1 ≡ l) × (nextBucket l i ≡ 0)) ⊎ ((i + 1 < l) × (nextBucket l i ≡ i + 1))
         → Ahead l (suc n) i j → (Ahead l n (nextBucket l i) j → Found (freeFrom t first l n (nextBucket l i)))
         → Found (cond b i (freeFrom t first l n (nextBucket l i)))
     go true p c w f = (h, p)
@@ -116,7 +120,8 @@ pub record EnteredAt (first l address hash : ℕ) (t : List ℕ) (bucket : ℕ) 
   pub holds-address : addressAt (entered first l address hash t) (first + bucket) ≡ address
   pub holds-hash : hashAt (entered first l address hash t) (first + bucket) ≡ hash
 
-pub enters : (t : List ℕ) (first l address hash j : ℕ) → 2 * (first + l) ≤ length t → j < l → emptyAt t (first + j) ≡ true
+pub enters : (t : List ℕ) (first l address hash j : ℕ) → 2 * (first + l) ≤ length t → j < l
+    → emptyAt t (first + j) ≡ true
     → EnteredAt first l address hash t (freeOf t first l hash)
 unfolding entered
 enters t first l address hash j inside k e =
@@ -143,7 +148,8 @@ unfolding empties
 empties-apart c address hash t b zero d = refl
 empties-apart c address hash t b (suc n) d =
     let n≢ : b ≢ c = λ e. apart d e in
-    rw (bucket-other c address hash t b n≢ .0) (ap (λ (k : ℕ). cond (emptyAt t b) 1 0 + k) (empties-apart c address hash t (b + 1) n (on d)))
+    rw (bucket-other c address hash t b n≢ .0)
+    (ap (λ (k : ℕ). cond (emptyAt t b) 1 0 + k) (empties-apart c address hash t (b + 1) n (on d)))
   where
     apart : (c < b) ⊎ (b + suc n ≤ c) → b ≡ c → ⊥
     apart (inl h) e = omega arith
@@ -153,7 +159,8 @@ empties-apart c address hash t b (suc n) d =
     on (inl h) = inl (omega arith)
     on (inr h) = inr (omega arith)
 
-empties-written : (c address hash : ℕ) (t : List ℕ) (b n : ℕ) → empties t b n ≤ empties (withBucket c address hash t) b n + 1
+empties-written : (c address hash : ℕ) (t : List ℕ) (b n : ℕ)
+    → empties t b n ≤ empties (withBucket c address hash t) b n + 1
 unfolding empties
 empties-written c address hash t b zero = omega arith
 empties-written c address hash t b (suc n) = go (ℕ-discrete b c) (empties-written c address hash t (b + 1) n)
@@ -169,7 +176,8 @@ empties-written c address hash t b (suc n) = go (ℕ-discrete b c) (empties-writ
         one false = omega arith
     go (no e) ih = rw (bucket-other c address hash t b e .0) (omega (arith, ih))
 
-empties-entered : (t : List ℕ) (first l address hash b n : ℕ) → empties t b n ≤ empties (entered first l address hash t) b n + 1
+empties-entered : (t : List ℕ) (first l address hash b n : ℕ)
+    → empties t b n ≤ empties (entered first l address hash t) b n + 1
 unfolding entered
 empties-entered t first l address hash b n = go (eqb (freeOf t first l hash) l)
   where
@@ -222,9 +230,11 @@ seen-nothing : (t keys : List ℕ) (a : Arena) (b hash : ℕ) (name : List ℕ) 
     → emptyAt t b ≡ true
 unfolding seenAt seenRecord
 seen-nothing t keys a b hash name e =
-    go (emptyAt t b) (eqb (hashAt t b) hash) (goodRecord a keys (addressAt t b)) (equalBytes (keyAt keys (addressAt t b)) name) e
+    go (emptyAt t b) (eqb (hashAt t b) hash) (goodRecord a keys (addressAt t b))
+    (equalBytes (keyAt keys (addressAt t b)) name) e
   where
-    go : (x y z w : Bool) → cond x Nothing (cond y (cond z (cond w (Same (addressAt t b)) Other) Broken) Other) ≡ Nothing → x ≡ true
+    go : (x y z w : Bool) → cond x Nothing (cond y (cond z (cond w (Same (addressAt t b)) Other) Broken) Other)
+        ≡ Nothing → x ≡ true
     go true y z w e = refl
     go false true true true e = let z : _≡_ {A = ℕ} 0 1 = cc in absurd (omega arith)
     go false true true false e = let z : _≡_ {A = ℕ} 0 1 = cc in absurd (omega arith)

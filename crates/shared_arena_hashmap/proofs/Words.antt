@@ -46,7 +46,8 @@ module _ (b address hash : ℕ) (t : List ℕ) where
 
   -- every other bucket is as it was
   pub bucket-other : (c : ℕ) → c ≢ b
-      → (addressAt (withBucket b address hash t) c ≡ addressAt t c) × (hashAt (withBucket b address hash t) c ≡ hashAt t c)
+      → (addressAt (withBucket b address hash t) c ≡ addressAt t c)
+      × (hashAt (withBucket b address hash t) c ≡ hashAt t c)
   bucket-other c n = go (decLe c b)
     where
       go : Dec (c ≤ b)

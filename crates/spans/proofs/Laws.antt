@@ -8,7 +8,8 @@ use native.Mathlib.Nat.{suc-add, zero-add}
 use native.Mathlib.Numerals.{towards-suc}
 use native.Mathlib.Omega.{arith}
 use lib.ListN.{length, take, drop, getD, set, length-take, length-drop}
-use lib.Seq.{take-nil, drop-nil, take-add, drop-drop, drop-cons, take-suc, take-take, getD-take, getD-drop, length-take-le, sets, sets-eq}
+use lib.Seq.{take-nil, drop-nil, take-add, drop-drop, drop-cons, take-suc, take-take, getD-take, getD-drop}
+use lib.Seq.{length-take-le, sets, sets-eq}
 use borrow.Rule.Slice.PartMut.{putMid, post-is}
 use Rattle.numbers.specs.LittleEndian.{leNumber, leBytes}
 use Rattle.numbers.proofs.Laws.{length-le, le-round}

@@ -33,7 +33,9 @@ use Rattle.store.specs.declared.State.{State}
 use Rattle.store.specs.declared.Appended.the-variants.{Accepted}
 use Rattle.store.specs.State.{firstOf}
 use Rattle.store.specs.Look.{Lent, lent, checked, walkOf, headerOf, headerSound}
-use Rattle.store.specs.Append.{out, declined, roomToGrow, isSaturated, isCrowded, grows, grownState, stateGrown, tableGrown, movedState, recordBytes, standingWritten, appendStanding, newWritten, onKeyRoom, appendNew, onMet, appendOf}
+use Rattle.store.specs.Append.{out, declined, roomToGrow, isSaturated, isCrowded, grows, grownState, stateGrown}
+use Rattle.store.specs.Append.{tableGrown, movedState, recordBytes, standingWritten, appendStanding, newWritten}
+use Rattle.store.specs.Append.{onKeyRoom, appendNew, onMet, appendOf}
 
 -- ---- growth
 

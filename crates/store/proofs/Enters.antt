@@ -37,13 +37,17 @@ use Rattle.store.specs.declared.Appended.the-variants.{Accepted}
 use Rattle.store.specs.declared.Lookup.the-variants.{Missing, Failed}
 use Rattle.store.specs.State.{firstOf}
 use Rattle.store.specs.Look.{Lent, checked, walkOf, lookupOf, onMet as Look·onMet}
-use Rattle.store.specs.Append.{Out, declined, isSaturated, roomToGrow, isCrowded, grows, grownState, stateGrown, tableGrown, movedState, recordBytes, newWritten, onKeyRoom, appendNew, onMet, appendOf}
+use Rattle.store.specs.Append.{Out, declined, isSaturated, roomToGrow, isCrowded, grows, grownState, stateGrown}
+use Rattle.store.specs.Append.{tableGrown, movedState, recordBytes, newWritten, onKeyRoom, appendNew, onMet}
+use Rattle.store.specs.Append.{appendOf}
 use Rattle.store.specs.Promises.{Entered}
 use Rattle.store.proofs.Whole.{Whole, whole-facts, Growable, growable, grown-stands, first-in}
-use Rattle.store.proofs.Cases.{state-stays, state-grows, table-stays, table-grows, does-grow, stays-unsaturated, record-written}
+use Rattle.store.proofs.Cases.{state-stays, state-grows, table-stays, table-grows, does-grow}
+use Rattle.store.proofs.Cases.{stays-unsaturated, record-written}
 
 -- the key of a record as it is written
-key-written : (at : ℕ) (name : List ℕ) (h : Header) (keys : List ℕ) → length name ≤ nameLimit → at + (length name + recordExtra) ≤ length keys
+key-written : (at : ℕ) (name : List ℕ) (h : Header) (keys : List ℕ) → length name ≤ nameLimit
+    → at + (length name + recordExtra) ≤ length keys
     → keyAt (overwrite at (recordBytes name h) keys) at ≡ name
 unfolding keyAt keyLength
 key-written at name h keys short inside =
@@ -130,7 +134,8 @@ module _ (st : State) (m : Lent) (c : checked st m ≡ true) (name : List ℕ) (
         let q : movedState (stateGrown st) (st .keys + 1) a (v .arena) ≡ s = cc in
         let r = room k empty in
         let h : ℕ = murmurHash2 (st .seed) name in
-        let E = enters (tableGrown st (m .table)) (firstOf (stateGrown st)) (stateGrown st .buckets) at h (r .0) inside (r .1) (r .2) in
+        let E = enters (tableGrown st (m .table)) (firstOf (stateGrown st)) (stateGrown st .buckets) at h
+        (r .0) inside (r .1) (r .2) in
         subst (λ (s : State). Entered st m name s (newWritten (some v) st m name at a .memory)) q (record {
           bucket = freeOf (tableGrown st (m .table)) (firstOf (stateGrown st)) (stateGrown st .buckets) h;
           below = E .below;
@@ -159,11 +164,14 @@ module _ (st : State) (m : Lent) (c : checked st m ≡ true) (name : List ℕ) (
         go : (b : Bool) → isCrowded st ≡ b
             → Enters st m name
             (cond b (declined st m 5)
-            (onKeyRoom (roomFor pageSize (st .«key_arena») (length (m .keys)) (length name + recordExtra)) st m name bytes))
+            (onKeyRoom
+            (roomFor pageSize (st .«key_arena») (length (m .keys)) (length name + recordExtra)) st m name bytes))
         go true e = enters-declined 5
-        go false e = enters-room e (roomFor pageSize (st .«key_arena») (length (m .keys)) (length name + recordExtra)) refl
+        go false e = enters-room e
+            (roomFor pageSize (st .«key_arena») (length (m .keys)) (length name + recordExtra)) refl
 
-  enters-met : (bytes : List ℕ) (x : Met) → walkOf st m name .met ≡ x → Look·onMet x ≡ Missing → Enters st m name (onMet x st m name bytes)
+  enters-met : (bytes : List ℕ) (x : Met) → walkOf st m name .met ≡ x → Look·onMet x ≡ Missing
+      → Enters st m name (onMet x st m name bytes)
   unfolding onMet walkOf AnEmpty
   enters-met bytes Damaged w e = let z : _≡_ {A = ℕ} 0 1 = cc in absurd (omega arith)
   enters-met bytes (Standing at) w e = let z : _≡_ {A = ℕ} 0 1 = cc in absurd (omega arith)
@@ -171,7 +179,8 @@ module _ (st : State) (m : Lent) (c : checked st m ≡ true) (name : List ℕ) (
     where
       met-empty : walkOf st m name .met ≡ Empty → AnEmpty (m .table) (firstOf st) (st .buckets)
       met-empty w =
-          lookup-empty (m .table) (m .keys) (st .«key_arena») (firstOf st) (st .buckets) (murmurHash2 (st .seed) name) name
+          lookup-empty (m .table) (m .keys) (st .«key_arena») (firstOf st) (st .buckets)
+          (murmurHash2 (st .seed) name) name
           (grow .some) w
   enters-met bytes Lap w e = go (isSaturated st) refl
     where
@@ -186,8 +195,11 @@ append-enters st m name bytes s l = go (checked st m) refl (leb (length name) na
   where
     go : (b : Bool) → checked st m ≡ b → (d : Bool) → leb (length name) nameLimit ≡ d
         → cond b (cond d (Look·onMet (walkOf st m name .met)) (Failed 3)) (Failed 2) ≡ Missing
-        → cond b (cond d (onMet (walkOf st m name .met) st m name bytes) (declined st m 3)) (declined st m 2) .answer ≡ Accepted s
-        → Entered st m name s (cond b (cond d (onMet (walkOf st m name .met) st m name bytes) (declined st m 3)) (declined st m 2) .memory)
+        → cond b (cond d (onMet (walkOf st m name .met) st m name bytes) (declined st m 3))
+        (declined st m 2) .answer ≡ Accepted s
+        → Entered st m name s
+        (cond b (cond d (onMet (walkOf st m name .met) st m name bytes) (declined st m 3))
+        (declined st m 2) .memory)
     go true c true d l e = enters-met st m c name (leb-true _ _ d) bytes (walkOf st m name .met) refl l s e
     go true c false d l e = let z : _≡_ {A = ℕ} 0 1 = cc in absurd (omega arith)
     go false c d e l f = let z : _≡_ {A = ℕ} 0 1 = cc in absurd (omega arith)

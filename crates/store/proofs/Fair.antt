@@ -9,7 +9,8 @@ use native.Mathlib.Omega.{arith}
 use lib.Dec.{leb, eqb}
 use lib.ListN.{length}
 use Rattle.limits.specs.Limits.{pageSize, nameLimit, recordExtra}
-use Rattle.limits.specs.Refusals.{Asked, appending, lookingUp, measuring, readingLane, findingBlock, listingBuckets, isAmong, refusalNumbers, permitted}
+use Rattle.limits.specs.Refusals.{Asked, appending, lookingUp, measuring, readingLane, findingBlock, listingBuckets}
+use Rattle.limits.specs.Refusals.{isAmong, refusalNumbers, permitted}
 use Rattle.memory_arena.specs.declared.Arena.{Arena}
 use Rattle.memory_arena.specs.declared.Allocated.{Allocated}
 use Rattle.memory_arena.specs.declared.Allocated.the-variants.{At as Room·At, NoRoom, Refused as Room·Refused}
@@ -48,7 +49,8 @@ fair-cond : {st : State} {m : Lent} (b : Bool) (x y : Out) → Fair st m x → F
 fair-cond true x y p q = p
 fair-cond false x y p q = q
 
-fair-declined : (st : State) (m : Lent) (n : ℕ) → isAmong n (refusalNumbers appending) ≡ true → Fair st m (declined st m n)
+fair-declined : (st : State) (m : Lent) (n : ℕ) → isAmong n (refusalNumbers appending) ≡ true
+    → Fair st m (declined st m n)
 fair-declined st m n h = record { kept = λ s k e. (sym (same s k e), refl); numbered = h }
   where
     same : (s : State) (k : ℕ) → Declined st n ≡ Declined s k → st ≡ s
@@ -109,7 +111,8 @@ pub fair-lookup : (st : State) (m : Lent) (name : List ℕ) → permitted lookin
 unfolding lookupOf
 fair-lookup st m name = go (checked st m) (leb (length name) nameLimit) (walkOf st m name .met)
   where
-    go : (b c : Bool) (x : Met) → permitted lookingUp (saidLookup (cond b (cond c (Look·onMet x) (Failed 3)) (Failed 2))) ≡ true
+    go : (b c : Bool) (x : Met)
+        → permitted lookingUp (saidLookup (cond b (cond c (Look·onMet x) (Failed 3)) (Failed 2))) ≡ true
     go true true Empty = refl
     go true true (Standing at) = refl
     go true true Damaged = refl
@@ -129,7 +132,8 @@ carried q wider Missing k h f = refl
 carried q wider (Failed n) k h f = wider n h
 
 -- whatever a sound list answers, damage is 4
-sound-or-4 : (q : Asked) (x : Answer) (b : Bool) → isAmong 4 (refusalNumbers q) ≡ true → permitted q (saidAnswer x) ≡ true
+sound-or-4 : (q : Asked) (x : Answer) (b : Bool) → isAmong 4 (refusalNumbers q) ≡ true → permitted q (saidAnswer x)
+    ≡ true
     → permitted q (saidAnswer (cond b x (Refused 4 0))) ≡ true
 sound-or-4 q x true f h = h
 sound-or-4 q x false f h = f
@@ -140,7 +144,8 @@ fair-length st m name =
     carried measuring (λ n h. h) (lookupOf st m name) (lengthAt (m .keys)) (fair-lookup st m name)
     (λ at. sound-or-4 measuring _ (headerSound (m .keys) at) refl refl)
 
-pub fair-block : (st : State) (m : Lent) (name : List ℕ) (i : ℕ) → permitted findingBlock (saidAnswer (findBlockOf st m name i)) ≡ true
+pub fair-block : (st : State) (m : Lent) (name : List ℕ) (i : ℕ)
+    → permitted findingBlock (saidAnswer (findBlockOf st m name i)) ≡ true
 unfolding findBlockOf blockAt Wider
 fair-block st m name i =
     carried findingBlock (λ n h. h) (lookupOf st m name) (blockAt st m i) (fair-lookup st m name)
@@ -160,7 +165,8 @@ pub record FairRead (output : List ℕ) (r : Read) : Type 0 where
   pub kept-absent : r .answer ≡ Absent → r .output ≡ output
   pub numbered : permitted readingLane (saidAnswer (r .answer)) ≡ true
 
-fair-kept : (output : List ℕ) (a : Answer) → permitted readingLane (saidAnswer a) ≡ true → FairRead output (reading a output)
+fair-kept : (output : List ℕ) (a : Answer) → permitted readingLane (saidAnswer a) ≡ true
+    → FairRead output (reading a output)
 fair-kept output a h = record { kept = λ n told e. refl; kept-absent = λ e. refl; numbered = h }
 
 fair-reading : (output written : List ℕ) (k : ℕ) → FairRead output (reading (Found (Reading k)) written)
@@ -213,7 +219,8 @@ fair-next st m i = go (checked st m) (occupiedFrom (m .table) (firstOf st) (st .
     inner true j at = refl
     inner false j at = refl
 
-    go : (b : Bool) (n : Next) → permitted listingBuckets (saidListed (cond b (onNext n (st .«key_arena») (m .keys)) (Stopped 2))) ≡ true
+    go : (b : Bool) (n : Next)
+        → permitted listingBuckets (saidListed (cond b (onNext n (st .«key_arena») (m .keys)) (Stopped 2))) ≡ true
     go true (Occupied j at) = inner (goodRecord (st .«key_arena») (m .keys) at) j at
     go true NoBucket = refl
     go false n = refl

@@ -36,7 +36,9 @@ use Rattle.store.specs.declared.Appended.the-variants.{Accepted}
 use Rattle.store.specs.Create.{out as Create·out, creatable, freshState, createOf}
 use Rattle.store.specs.State.{wordsTaken, firstOf}
 use Rattle.store.specs.Look.{Lent, lent, checked, walkOf, headerOf, headerSound}
-use Rattle.store.specs.Append.{Out, declined, isSaturated, roomToGrow, isCrowded, grows, grownState, stateGrown, tableGrown, movedState, recordBytes, standingWritten, appendStanding, newWritten, onKeyRoom, appendNew, onMet, appendOf}
+use Rattle.store.specs.Append.{Out, declined, isSaturated, roomToGrow, isCrowded, grows, grownState, stateGrown}
+use Rattle.store.specs.Append.{tableGrown, movedState, recordBytes, standingWritten, appendStanding, newWritten}
+use Rattle.store.specs.Append.{onKeyRoom, appendNew, onMet, appendOf}
 use Rattle.store.proofs.Whole.{Whole, whole-facts, whole-made, Growable, growable, grown-stands, creatable-facts, unused-sensible}
 use Rattle.store.proofs.Cases.{state-stays, state-grows, stays-unsaturated, stays-crowded, does-grow}
 

@@ -28,8 +28,11 @@ create-refused capacity seed table keyBytes listBytes n = go (creatable capacity
     fresh : State
     fresh = freshState seed (length table) keyBytes listBytes (roundedDown capacity)
 
-    go : (b : Bool) → cond b (creation (Made fresh) (cleared 0 (roundedDown capacity) table)) (creation (Barred 1) table) .answer ≡ Barred n
-        → cond b (creation (Made fresh) (cleared 0 (roundedDown capacity) table)) (creation (Barred 1) table) ≡ creation (Barred 1) table
+    go : (b : Bool)
+        → cond b (creation (Made fresh) (cleared 0 (roundedDown capacity) table))
+        (creation (Barred 1) table) .answer ≡ Barred n
+        → cond b (creation (Made fresh) (cleared 0 (roundedDown capacity) table)) (creation (Barred 1) table)
+        ≡ creation (Barred 1) table
     go true e = let z : _≡_ {A = ℕ} 0 1 = cc in absurd (omega arith)
     go false e = refl
 

@@ -4,7 +4,8 @@ use Prim.Native.Nat.{ℕ}
 use mathlib.Core.Path.{_≡_, refl}
 use mathlib.Core.List.{List, [], _∷_}
 use lib.ListN.{replicate}
-use Rattle.limits.specs.Refusals.{answered, refused, created, accepted, aPlace, absent, aLength, aReading, aBlock, noSuchBlock, aBucket, noBucket, aCount}
+use Rattle.limits.specs.Refusals.{answered, refused, created, accepted, aPlace, absent, aLength, aReading, aBlock}
+use Rattle.limits.specs.Refusals.{noSuchBlock, aBucket, noBucket, aCount}
 use Rattle.spans.specs.Span.{overwrite}
 use Rattle.store.specs.declared.State.{State}
 use Rattle.store.specs.declared.Appended.{Appended}
@@ -94,7 +95,8 @@ pub said-appended : (saidAppended (appendOf start lent-at-first lane-a [] .answe
     × (saidAppended (appendOf one lent-one (sevens 65536) [] .answer) ≡ refused 3 [])
     × (saidAppended (appendOf one broken lane-a [] .answer) ≡ refused 4 [])
     × (saidAppended
-    (appendOf (stateOf (appendOf tight lent-tight lane-a [] .answer)) (appendOf tight lent-tight lane-a [] .memory) lane-b [] .answer)
+    (appendOf (stateOf (appendOf tight lent-tight lane-a [] .answer))
+    (appendOf tight lent-tight lane-a [] .memory) lane-b [] .answer)
     ≡ refused 5 [])
     × (saidAppended (appendOf one lent-one (sevens 28) [] .answer) ≡ refused 6 [])
     × (saidAppended (appendOf one lent-one (sevens 27) [] .answer) ≡ answered accepted [])

@@ -20,7 +20,8 @@ use Rattle.store.specs.declared.Listed.{Listed}
 use Rattle.store.specs.declared.Counted.{Counted}
 use Rattle.store.specs.State.{firstOf}
 use Rattle.store.specs.Create.{Out as Creation, out as creation, createOf}
-use Rattle.store.specs.Look.{Lent, lent, checked, lookupOf, lengthOf, Read, reading, readOf, findBlockOf, showOf, nextOf, countOf}
+use Rattle.store.specs.Look.{Lent, lent, checked, lookupOf, lengthOf, Read, reading, readOf, findBlockOf}
+use Rattle.store.specs.Look.{showOf, nextOf, countOf}
 use Rattle.store.specs.Append.{Out, declined, tableGrown, appendOf}
 
 -- ---- a new name entered
@@ -61,12 +62,13 @@ pub record Promises : Type 0 where
   pub append-enters : (st : State) (m : Lent) (name bytes : List ℕ) (st′ : State) → lookupOf st m name ≡ Missing
       → appendOf st m name bytes .answer ≡ Accepted st′ → Entered st m name st′ (appendOf st m name bytes .memory)
 
--- ---- "that two permitted outcomes coincide is itself proved": of each call, two outcomes that meet its contract are equal
+-- ---- "that two permitted outcomes coincide is itself proved": two outcomes that meet a call's contract are equal
 
 -- RULES X8.
 pub record Settled : Type 0 where
   pub create-settled : (capacity seed : ℕ) (table : List ℕ) (keyBytes listBytes : ℕ) (x y : Creation)
-      → x ≡ createOf capacity seed table keyBytes listBytes → y ≡ createOf capacity seed table keyBytes listBytes → x ≡ y
+      → x ≡ createOf capacity seed table keyBytes listBytes → y ≡ createOf capacity seed table keyBytes listBytes
+      → x ≡ y
   pub append-settled : (st : State) (m : Lent) (name bytes : List ℕ) (x y : Out)
       → x ≡ appendOf st m name bytes → y ≡ appendOf st m name bytes → x ≡ y
   pub lookup-settled : (st : State) (m : Lent) (name : List ℕ) (x y : Lookup)
@@ -77,6 +79,7 @@ pub record Settled : Type 0 where
       → x ≡ readOf st m name output → y ≡ readOf st m name output → x ≡ y
   pub block-settled : (st : State) (m : Lent) (name : List ℕ) (i : ℕ) (x y : Answer)
       → x ≡ findBlockOf st m name i → y ≡ findBlockOf st m name i → x ≡ y
-  pub show-settled : (st : State) (m : Lent) (at n : ℕ) (x y : List ℕ) → x ≡ showOf st m at n → y ≡ showOf st m at n → x ≡ y
+  pub show-settled : (st : State) (m : Lent) (at n : ℕ) (x y : List ℕ) → x ≡ showOf st m at n → y ≡ showOf st m at n
+      → x ≡ y
   pub next-settled : (st : State) (m : Lent) (i : ℕ) (x y : Listed) → x ≡ nextOf st m i → y ≡ nextOf st m i → x ≡ y
   pub count-settled : (st : State) (m : Lent) (x y : Counted) → x ≡ countOf st m → y ≡ countOf st m → x ≡ y

@@ -1,9 +1,11 @@
--- Each answer in document 01's terms: its word and the values it tells, or a refusal's number and what is told beside it.
+-- Each answer in document 01's terms: its word and the values it tells, or a refusal's number and what is told beside
+-- it.
 use Prim.Native.Nat.{ℕ}
 use mathlib.Core.Bool.{cond}
 use mathlib.Core.List.{List, [], _∷_}
 use lib.Dec.{eqb}
-use Rattle.limits.specs.Refusals.{Said, answered, refused, created, accepted, aPlace, absent, aLength, aReading, aBlock, noSuchBlock, aBucket, noBucket, aCount}
+use Rattle.limits.specs.Refusals.{Said, answered, refused, created, accepted, aPlace, absent, aLength, aReading}
+use Rattle.limits.specs.Refusals.{aBlock, noSuchBlock, aBucket, noBucket, aCount}
 use Rattle.store.specs.declared.Created.{Created}
 use Rattle.store.specs.declared.Created.the-variants.{Made, Barred}
 use Rattle.store.specs.declared.Appended.{Appended}

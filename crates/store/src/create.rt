@@ -53,7 +53,8 @@ fn fresh_state(
 
 // A store of a capacity, rounded down to a power of two, over lent words and pages. Only the table's first words are written.
 pub fn create(capacity: usize, seed: u32, table: &mut [u32], keys: &[u8], lists: &[u8]) -> Created
-    ensures settled { λ r. ⌜ out r (now (table .exit)) ≡ createOf capacity seed (now (table .entry)) (length (now (keys .entry))) (length (now (lists .entry))) ⌝ }
+    ensures settled { λ r. ⌜ out r (now (table .exit))
+        ≡ createOf capacity seed (now (table .entry)) (length (now (keys .entry))) (length (now (lists .entry))) ⌝ }
     ensures numbered { λ r. ⌜ permitted creating (saidCreated r) ≡ true ⌝ }
 {
     let words = table.len();

@@ -105,7 +105,8 @@ fn first_bucket(st: State) -> usize
 // The walk of a name's lookup, in a store whose state is whole.
 fn walk(st: State, table: &[u32], keys: &[u8], lists: &[u8], name: &[u8]) -> Walk
     requires { ⌜ checked st (lent (now table) (now keys) (now lists)) ≡ true ⌝ }
-    ensures { λ r. ⌜ r ≡ walkOf st (lent (now (table .entry)) (now (keys .entry)) (now (lists .entry))) (now (name .entry)) ⌝ }
+    ensures { λ r. ⌜ r
+        ≡ walkOf st (lent (now (table .entry)) (now (keys .entry)) (now (lists .entry))) (now (name .entry)) ⌝ }
 {
     let arena = st.key_arena;
     let first = first_bucket(st);

@@ -15,11 +15,13 @@ ghost use mathlib.Core.Path.{_≡_};
 ghost use mathlib.Core.Bool.{true};
 ghost use Prim.Native.Nat.{_+_, _≤_};
 ghost use lib.ListN.{length};
-ghost use Rattle.limits.specs.Refusals.{lookingUp, measuring, readingLane, findingBlock, listingBuckets, countingKeys, permitted};
+ghost use Rattle.limits.specs.Refusals.{lookingUp, measuring, readingLane, findingBlock, listingBuckets};
+ghost use Rattle.limits.specs.Refusals.{countingKeys, permitted};
 ghost use Rattle.memory_arena.specs.Calls.{sensible};
 ghost use Rattle.shared_arena_hashmap.specs.Probe.{valuePlace};
 ghost use Rattle.store.specs.Said.{saidLookup, saidAnswer, saidListed, saidCounted};
-ghost use Rattle.store.specs.Look.{lent, onMet, lookupOf, notFound, lengthAt, lengthOf, reading, readAt, readOf, onBlock, blockAt, findBlockOf, showOf, onNext, nextOf, countOf};
+ghost use Rattle.store.specs.Look.{lent, onMet, lookupOf, notFound, lengthAt, lengthOf, reading, readAt};
+ghost use Rattle.store.specs.Look.{readOf, onBlock, blockAt, findBlockOf, showOf, onNext, nextOf, countOf};
 
 fn on_met(met: Met) -> Lookup
     ensures { λ r. ⌜ r ≡ onMet met ⌝ }
@@ -34,7 +36,8 @@ fn on_met(met: Met) -> Lookup
 
 // The place of a name's record, or absent.
 pub fn lookup(st: State, table: &[u32], keys: &[u8], lists: &[u8], name: &[u8]) -> Lookup
-    ensures settled { λ r. ⌜ r ≡ lookupOf st (lent (now (table .entry)) (now (keys .entry)) (now (lists .entry))) (now (name .entry)) ⌝ }
+    ensures settled { λ r. ⌜ r
+        ≡ lookupOf st (lent (now (table .entry)) (now (keys .entry)) (now (lists .entry))) (now (name .entry)) ⌝ }
     ensures numbered { λ r. ⌜ permitted lookingUp (saidLookup r) ≡ true ⌝ }
 {
     if !crate::check::is_whole_state(st, table.len(), keys.len(), lists.len()) {
@@ -73,7 +76,8 @@ fn length_at(keys: &[u8], at: u32) -> Answer
 
 // A lane's length.
 pub fn length(st: State, table: &[u32], keys: &[u8], lists: &[u8], name: &[u8]) -> Answer
-    ensures settled { λ r. ⌜ r ≡ lengthOf st (lent (now (table .entry)) (now (keys .entry)) (now (lists .entry))) (now (name .entry)) ⌝ }
+    ensures settled { λ r. ⌜ r
+        ≡ lengthOf st (lent (now (table .entry)) (now (keys .entry)) (now (lists .entry))) (now (name .entry)) ⌝ }
     ensures numbered { λ r. ⌜ permitted measuring (saidAnswer r) ≡ true ⌝ }
 {
     let found = lookup(st, table, keys, lists, name);
@@ -120,7 +124,9 @@ pub fn read(
     name: &[u8],
     output: &mut [u8],
 ) -> Answer
-    ensures settled { λ r. ⌜ reading r (now (output .exit)) ≡ readOf st (lent (now (table .entry)) (now (keys .entry)) (now (lists .entry))) (now (name .entry)) (now (output .entry)) ⌝ }
+    ensures settled { λ r. ⌜ reading r (now (output .exit))
+        ≡ readOf st (lent (now (table .entry)) (now (keys .entry)) (now (lists .entry))) (now (name .entry))
+        (now (output .entry)) ⌝ }
     ensures numbered { λ r. ⌜ permitted readingLane (saidAnswer r) ≡ true ⌝ }
 {
     let found = lookup(st, table, keys, lists, name);
@@ -161,7 +167,9 @@ pub fn find_block(
     name: &[u8],
     index: usize,
 ) -> Answer
-    ensures settled { λ r. ⌜ r ≡ findBlockOf st (lent (now (table .entry)) (now (keys .entry)) (now (lists .entry))) (now (name .entry)) index ⌝ }
+    ensures settled { λ r. ⌜ r
+        ≡ findBlockOf st (lent (now (table .entry)) (now (keys .entry)) (now (lists .entry)))
+        (now (name .entry)) index ⌝ }
     ensures numbered { λ r. ⌜ permitted findingBlock (saidAnswer r) ≡ true ⌝ }
 {
     let found = lookup(st, table, keys, lists, name);
@@ -211,7 +219,8 @@ fn on_next(keys: &[u8], arena: Arena, next: Next) -> Listed
 
 // The next occupied bucket from an index on, that one included.
 pub fn next_occupied(st: State, table: &[u32], keys: &[u8], lists: &[u8], index: usize) -> Listed
-    ensures settled { λ r. ⌜ r ≡ nextOf st (lent (now (table .entry)) (now (keys .entry)) (now (lists .entry))) index ⌝ }
+    ensures settled { λ r. ⌜ r
+        ≡ nextOf st (lent (now (table .entry)) (now (keys .entry)) (now (lists .entry))) index ⌝ }
     ensures numbered { λ r. ⌜ permitted listingBuckets (saidListed r) ≡ true ⌝ }
 {
     if !crate::check::is_whole_state(st, table.len(), keys.len(), lists.len()) {

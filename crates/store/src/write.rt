@@ -249,7 +249,9 @@ pub fn append(
     name: &[u8],
     bytes: &[u8],
 ) -> Appended
-    ensures settled { λ r. ⌜ out r (lent (now (table .exit)) (now (keys .exit)) (now (lists .exit))) ≡ appendOf st (lent (now (table .entry)) (now (keys .entry)) (now (lists .entry))) (now (name .entry)) (now (bytes .entry)) ⌝ }
+    ensures settled { λ r. ⌜ out r (lent (now (table .exit)) (now (keys .exit)) (now (lists .exit)))
+        ≡ appendOf st (lent (now (table .entry)) (now (keys .entry)) (now (lists .entry))) (now (name .entry))
+        (now (bytes .entry)) ⌝ }
     ensures numbered { λ r. ⌜ permitted appending (saidAppended r) ≡ true ⌝ }
 {
     if !crate::check::is_whole_state(st, table.len(), keys.len(), lists.len()) {

@@ -17,7 +17,8 @@ use Rattle.limits.specs.Refusals.{unvinting, permitted}
 use Rattle.limits.specs.Limits.{vintLimit}
 use Rattle.vint.specs.declared.Unvint.{Unvint}
 use Rattle.vint.specs.declared.Unvint.the-variants.{Number}
-use Rattle.vint.specs.Vint.{vintBytes, writeVint, TopOnLast, Taken, ended, unended, grouped, takeVint, answerOf, readVint, saidUnvint}
+use Rattle.vint.specs.Vint.{vintBytes, writeVint, TopOnLast, Taken, ended, unended, grouped, takeVint, answerOf}
+use Rattle.vint.specs.Vint.{readVint, saidUnvint}
 
 -- a number is below another or not
 below-or : (n k : ℕ) → (n < k) ⊎ (k ≤ n)

@@ -1,3 +1,4 @@
--- `Laws`: of the definitions of specs/, for the proofs here and above. `Promises`: the value of the record in specs/Promises.
+-- `Laws`: of the definitions of specs/, for the proofs here and above. `Promises`: the value of the record in
+-- specs/Promises.
 pub mod Laws
 pub mod Promises

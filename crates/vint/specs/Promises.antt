@@ -1,4 +1,5 @@
--- What is promised of vints beyond each call's own equation. One record, a field a sentence; proofs/Promises.antt has its one value.
+-- What is promised of vints beyond each call's own equation. One record, a field a sentence; proofs/Promises.antt has
+-- its one value.
 use Prim.Native.Nat.{ℕ, _^_, _≤_, _<_}
 use mathlib.Core.Path.{_≡_}
 use mathlib.Core.List.{List, _++_}
@@ -11,7 +12,8 @@ use Rattle.vint.specs.Vint.{writeVint, TopOnLast, readVint}
 -- RULES K5. With it what K1 and K2 say of the writer.
 pub record Promises : Type 0 where
   -- RULES K5. "A number written as a vint reads back as itself", whatever follows, and takes the bytes written.
-  pub read-back : (n : ℕ) (rest : List ℕ) → n < 2 ^ 32 → readVint (writeVint n ++ rest) ≡ Number n (length (writeVint n))
+  pub read-back : (n : ℕ) (rest : List ℕ) → n < 2 ^ 32 → readVint (writeVint n ++ rest)
+      ≡ Number n (length (writeVint n))
   -- RULES K2. "The writer answers the fewest bytes, 1 to 5": no accepted form of the number is shorter.
   pub vint-length : (n : ℕ) → (1 ≤ length (writeVint n)) × (length (writeVint n) ≤ vintLimit)
   pub fewest : (bs : List ℕ) (n k : ℕ) → Bytes bs → readVint bs ≡ Number n k → length (writeVint n) ≤ k

@@ -26,8 +26,13 @@ returns : tie.Need-returns
 returns c =
     let a = c .before .before .before .before .before .before .before .args in
     let m = lent (a .table .now) (a .keys .now) (a .lists .now) in
-    let e = c .not-found .ensures ∙ block-not (a .st) m (a .name .now) (a .index) _ (c .before .before .lookup .ensures .0) (c .before .match .keys2) in
-    (e, subst (λ (r : Answer). permitted findingBlock (saidAnswer r) ≡ true) (sym e) (fair-block (a .st) m (a .name .now) (a .index)))
+    let e = c .not-found .ensures
+    ∙ block-not (a .st) m (a .name .now) (a .index) _ (c .before .before .lookup .ensures .0)
+    (c .before .match .keys2) in (
+      e,
+      subst (λ (r : Answer). permitted findingBlock (saidAnswer r) ≡ true) (sym e)
+          (fair-block (a .st) m (a .name .now) (a .index)),
+    )
 
 block-at-requires : tie.Need-block-at-requires
 block-at-requires c κs =
@@ -39,8 +44,13 @@ returns-2 : tie.Need-returns-2
 returns-2 c =
     let a = c .before .before .before .before .before .before .before .before .before .args in
     let m = lent (a .table .now) (a .keys .now) (a .lists .now) in
-    let e = c .block-at .ensures ∙ block-at (a .st) m (a .name .now) (a .index) _ (sym (c .before .before .before .before .lookup .ensures .0) ∙ c .before .before .found .given .1) in
-    (e, subst (λ (r : Answer). permitted findingBlock (saidAnswer r) ≡ true) (sym e) (fair-block (a .st) m (a .name .now) (a .index)))
+    let e = c .block-at .ensures
+    ∙ block-at (a .st) m (a .name .now) (a .index) _
+    (sym (c .before .before .before .before .lookup .ensures .0) ∙ c .before .before .found .given .1) in (
+      e,
+      subst (λ (r : Answer). permitted findingBlock (saidAnswer r) ≡ true) (sym e)
+          (fair-block (a .st) m (a .name .now) (a .index)),
+    )
 
 pub find-block-spec : {M : Type 1} → statement M
 find-block-spec =

@@ -24,8 +24,12 @@ returns : tie.Need-returns
 returns c =
     let a = c .before .before .before .before .before .before .before .args in
     let m = lent (a .table .now) (a .keys .now) (a .lists .now) in
-    let e = c .not-found .ensures ∙ length-not (a .st) m (a .name .now) _ (c .before .before .lookup .ensures .0) (c .before .match .keys2) in
-    (e, subst (λ (r : Answer). permitted measuring (saidAnswer r) ≡ true) (sym e) (fair-length (a .st) m (a .name .now)))
+    let e = c .not-found .ensures
+    ∙ length-not (a .st) m (a .name .now) _ (c .before .before .lookup .ensures .0) (c .before .match .keys2) in (
+      e,
+      subst (λ (r : Answer). permitted measuring (saidAnswer r) ≡ true) (sym e)
+          (fair-length (a .st) m (a .name .now)),
+    )
 
 length-at-requires : tie.Need-length-at-requires
 length-at-requires c κs =
@@ -37,8 +41,13 @@ returns-2 : tie.Need-returns-2
 returns-2 c =
     let a = c .before .before .before .before .before .before .before .before .before .args in
     let m = lent (a .table .now) (a .keys .now) (a .lists .now) in
-    let e = c .length-at .ensures ∙ length-at (a .st) m (a .name .now) _ (sym (c .before .before .before .before .lookup .ensures .0) ∙ c .before .before .found .given .1) in
-    (e, subst (λ (r : Answer). permitted measuring (saidAnswer r) ≡ true) (sym e) (fair-length (a .st) m (a .name .now)))
+    let e = c .length-at .ensures
+    ∙ length-at (a .st) m (a .name .now) _
+    (sym (c .before .before .before .before .lookup .ensures .0) ∙ c .before .before .found .given .1) in (
+      e,
+      subst (λ (r : Answer). permitted measuring (saidAnswer r) ≡ true) (sym e)
+          (fair-length (a .st) m (a .name .now)),
+    )
 
 pub length-spec : {M : Type 1} → statement M
 length-spec =

@@ -36,8 +36,15 @@ returns-3 : tie.Need-returns-3
 returns-3 c =
     let a = c .before .before .before .before .before .before .before .before .before .args in
     let m = lent (a .table .now) (a .keys .now) (a .lists .now) in
-    let e = c .on-met .ensures ∙ sym (lookup-met (a .st) m (a .name .now) _ (sym (c .before .before .before .before .is-whole-state .ensures) ∙ not-false _ (c .before .before .before .if1 .left)) (omega arith) (sym (ap (λ w. w .met) (c .before .walk .ensures)))) in
-    (e, subst (λ (r : Lookup). permitted lookingUp (saidLookup r) ≡ true) (sym e) (fair-lookup (a .st) m (a .name .now)))
+    let e = c .on-met .ensures
+    ∙ sym (lookup-met (a .st) m (a .name .now) _
+    (sym (c .before .before .before .before .is-whole-state .ensures)
+    ∙ not-false _ (c .before .before .before .if1 .left)) (omega arith)
+    (sym (ap (λ w. w .met) (c .before .walk .ensures)))) in (
+      e,
+      subst (λ (r : Lookup). permitted lookingUp (saidLookup r) ≡ true) (sym e)
+          (fair-lookup (a .st) m (a .name .now)),
+    )
 
 pub lookup-spec : {M : Type 1} → statement M
 lookup-spec =

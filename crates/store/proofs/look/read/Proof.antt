@@ -26,8 +26,13 @@ returns : tie.Need-returns
 returns c =
     let a = c .before .before .before .before .before .before .before .before .args in
     let m = lent (a .table .now) (a .keys .now) (a .lists .now) in
-    let e = ap (λ (r : Answer). reading r (a .output .now)) (c .not-found .ensures) ∙ read-not (a .st) m (a .name .now) (a .output .now) _ (c .before .before .lookup .ensures .0) (c .before .match .keys2) in
-    (e, subst (λ (r : Read). permitted readingLane (saidAnswer (r .answer)) ≡ true) (sym e) (fair-read (a .st) m (a .name .now) (a .output .now) .numbered))
+    let e = ap (λ (r : Answer). reading r (a .output .now)) (c .not-found .ensures)
+    ∙ read-not (a .st) m (a .name .now) (a .output .now) _ (c .before .before .lookup .ensures .0)
+    (c .before .match .keys2) in (
+      e,
+      subst (λ (r : Read). permitted readingLane (saidAnswer (r .answer)) ≡ true) (sym e)
+          (fair-read (a .st) m (a .name .now) (a .output .now) .numbered),
+    )
 
 read-at-requires : tie.Need-read-at-requires
 read-at-requires c κs =
@@ -42,8 +47,14 @@ returns-2 : tie.Need-returns-2
 returns-2 c =
     let a = c .before .before .before .before .before .before .before .before .before .before .before .before .before .args in
     let m = lent (a .table .now) (a .keys .now) (a .lists .now) in
-    let e = c .before .before .read-at .ensures ∙ read-at (a .st) m (a .name .now) (a .output .now) _ (sym (c .before .before .before .before .before .before .before .lookup .ensures .0) ∙ c .before .before .before .before .before .found .given .1) in
-    (e, subst (λ (r : Read). permitted readingLane (saidAnswer (r .answer)) ≡ true) (sym e) (fair-read (a .st) m (a .name .now) (a .output .now) .numbered))
+    let e = c .before .before .read-at .ensures
+    ∙ read-at (a .st) m (a .name .now) (a .output .now) _
+    (sym (c .before .before .before .before .before .before .before .lookup .ensures .0)
+    ∙ c .before .before .before .before .before .found .given .1) in (
+      e,
+      subst (λ (r : Read). permitted readingLane (saidAnswer (r .answer)) ≡ true) (sym e)
+          (fair-read (a .st) m (a .name .now) (a .output .now) .numbered),
+    )
 
 pub read-spec : {M : Type 1} → statement M
 read-spec =

@@ -55,10 +55,14 @@ on-met c x e =
     append-met (a .st) (lent (a .table .now) (a .keys .now) (a .lists .now)) (a .name .now) (a .bytes .now) x (whole (c .before .before .before .before)) (short (c .before .before .before .before)) (met-is c ∙ e)
 
 -- an answer that is the definition's has a number that is permitted
-numbered-too : (st : State) (m : Lent) (name bytes : List ℕ) (r : Appended) (k : Lent) → out r k ≡ appendOf st m name bytes
+numbered-too : (st : State) (m : Lent) (name bytes : List ℕ) (r : Appended) (k : Lent) → out r k
+    ≡ appendOf st m name bytes
     → (out r k ≡ appendOf st m name bytes) × (permitted appending (saidAppended r) ≡ true)
-numbered-too st m name bytes r k e =
-    (e, subst (λ (o : Out). permitted appending (saidAppended (o .answer)) ≡ true) (sym e) (fair-append st m name bytes .numbered))
+numbered-too st m name bytes r k e = (
+  e,
+  subst (λ (o : Out). permitted appending (saidAppended (o .answer)) ≡ true) (sym e)
+      (fair-append st m name bytes .numbered),
+)
 
 walk-requires : tie.Need-walk-requires
 walk-requires c κs = whole (c .before .before .before)
