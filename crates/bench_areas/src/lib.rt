@@ -139,20 +139,12 @@ fn poke_fault(
 }
 
 // `poke AREA PLACE BYTES-or-WORD`
-fn poke(
-    line: &[u8],
-    table: &mut [u32],
-    keys: &mut [u8],
-    lists: &mut [u8],
-    scratch: &mut [u8],
-    out: &mut [u8],
-    at: usize,
-) -> usize {
+fn poke(line: &[u8], table: &mut [u32], keys: &mut [u8], lists: &mut [u8], scratch: &mut [u8]) {
     let fault = poke_fault(line, table, keys, lists, scratch);
     if fault != 0 {
-        return say::fault(out, at, fault);
+        return say::fault(fault);
     }
-    say::line(out, at, b"poked")
+    say::line(b"poked")
 }
 
 // What a `dump` line asks for of an area: from a place, up to another, or why nothing.
@@ -177,34 +169,34 @@ fn range_of(line: &[u8], len: usize) -> Range
     }
 }
 
-fn dump_bytes(line: &[u8], area: &[u8], out: &mut [u8], at: usize) -> usize {
+fn dump_bytes(line: &[u8], area: &[u8]) {
     let r = range_of(line, area.len());
     if r.fault != 0 {
-        return say::fault(out, at, r.fault);
+        return say::fault(r.fault);
     }
     let from = r.from;
     let to = r.to;
-    say::bytes_line(out, at, &area[from..to])
+    say::bytes_line(&area[from..to])
 }
 
-fn dump_words(line: &[u8], area: &[u32], out: &mut [u8], at: usize) -> usize {
+fn dump_words(line: &[u8], area: &[u32]) {
     let r = range_of(line, area.len());
     if r.fault != 0 {
-        return say::fault(out, at, r.fault);
+        return say::fault(r.fault);
     }
     let from = r.from;
     let to = r.to;
-    say::words_line(out, at, &area[from..to])
+    say::words_line(&area[from..to])
 }
 
 // `dump AREA PLACE COUNT`
-fn dump(line: &[u8], table: &[u32], keys: &[u8], lists: &[u8], out: &mut [u8], at: usize) -> usize {
+fn dump(line: &[u8], table: &[u32], keys: &[u8], lists: &[u8]) {
     let area = area_of(words::word(line, 1));
     match area {
-        0 => dump_words(line, table, out, at),
-        1 => dump_bytes(line, keys, out, at),
-        2 => dump_bytes(line, lists, out, at),
-        _ => say::fault(out, at, fault::NO_SUCH_AREA),
+        0 => dump_words(line, table),
+        1 => dump_bytes(line, keys),
+        2 => dump_bytes(line, lists),
+        _ => say::fault(fault::NO_SUCH_AREA),
     }
 }
 
@@ -230,27 +222,19 @@ fn lay_out(words: &[u32], into: &mut [u8])
     }
 }
 
-fn say_sum(out: &mut [u8], at: usize, a: u32, b: u32, c: u32, d: u32) -> usize {
-    let first = say::told(out, at, b"sum ", a as u64);
-    let second = say::told(out, first, b" ", b as u64);
-    let third = say::told(out, second, b" ", c as u64);
-    say::number(out, third, b" ", d as u64)
+fn say_sum(a: u32, b: u32, c: u32, d: u32) {
+    say::told(b"sum ", a as u64);
+    say::then(b as u64);
+    say::then(c as u64);
+    say::last(d as u64)
 }
 
 // `sum`
-fn sum(
-    st: State,
-    table: &[u32],
-    keys: &[u8],
-    lists: &[u8],
-    scratch: &mut [u8],
-    out: &mut [u8],
-    at: usize,
-) -> usize {
+fn sum(st: State, table: &[u32], keys: &[u8], lists: &[u8], scratch: &mut [u8]) {
     let a = hash_words(table, scratch);
     let b = murmurhash2::murmurhash2(keys, 0);
     let c = murmurhash2::murmurhash2(lists, 0);
-    say_sum(out, at, a, b, c, bench_state::hash(st))
+    say_sum(a, b, c, bench_state::hash(st))
 }
 
 // The command of a number.
@@ -263,12 +247,10 @@ pub fn play(
     lists: &mut [u8],
     name: &mut [u8],
     output: &mut [u8],
-    out: &mut [u8],
-    at: usize,
-) -> usize {
+) {
     match k {
-        40 => poke(line, table, keys, lists, name, out, at),
-        41 => dump(line, table, keys, lists, out, at),
-        _ => sum(st, table, keys, lists, output, out, at),
+        40 => poke(line, table, keys, lists, name),
+        41 => dump(line, table, keys, lists),
+        _ => sum(st, table, keys, lists, output),
     }
 }

@@ -15,93 +15,98 @@ use vint::Unvint;
 ghost use Prim.Native.Nat.{_≤_};
 ghost use lib.ListN.{length};
 
+fn say_hash(bytes: &[u8], seed: u32) {
+    say::number(b"hash ", murmurhash2::murmurhash2(bytes, seed) as u64)
+}
+
 // `hash SEED BYTES`
-fn hash(line: &[u8], name: &mut [u8], out: &mut [u8], at: usize) -> usize {
+fn hash(line: &[u8], name: &mut [u8]) {
     let seed = words::number_at(line, 1);
     let got = words::bytes(line, 2, name);
     let wide = fault::first(seed.fault, words::beyond_32(seed.value));
     let fault = fault::first(wide, got.fault);
     if fault != 0 {
-        return say::fault(out, at, fault);
+        return say::fault(fault);
     }
     let n = got.n;
-    let h = murmurhash2::murmurhash2(&name[0..n], words::low_32(seed.value));
-    say::number(out, at, b"hash ", h as u64)
+    say_hash(&name[0..n], words::low_32(seed.value))
 }
 
-fn say_front(bytes: &[u8], n: usize, out: &mut [u8], at: usize) -> usize {
+fn say_front(bytes: &[u8], n: usize) {
     if n <= bytes.len() {
-        return say::bytes(out, at, &bytes[0..n]);
+        say::bytes_line(&bytes[0..n]);
     }
-    at
 }
 
 // `vint N`
-fn vint(line: &[u8], out: &mut [u8], at: usize) -> usize {
+fn vint(line: &[u8]) {
     let n = words::number_at(line, 1);
     let fault = fault::first(n.fault, words::beyond_32(n.value));
     if fault != 0 {
-        return say::fault(out, at, fault);
+        return say::fault(fault);
     }
     let v = vint::serialize_vint_u32(words::low_32(n.value));
     let bytes = v.bytes;
     let count = v.count;
-    let said = say::text(out, at, b"vint ");
-    let shown = say_front(&bytes, count, out, said);
-    say::byte(out, shown, b'\n')
+    say::text(b"vint ");
+    say_front(&bytes, count);
 }
 
-fn say_unvint(u: Unvint, out: &mut [u8], at: usize) -> usize {
+fn say_unvint(u: Unvint) {
     match u {
         Unvint::Number(n, taken) => {
-            let said = say::told(out, at, b"number ", n as u64);
-            say::number(out, said, b" taken ", taken as u64)
+            say::told(b"number ", n as u64);
+            say::number(b" taken ", taken as u64)
         }
-        Unvint::Refused(n) => say::refused(out, at, n),
+        Unvint::Refused(n) => say::refused(n),
     }
 }
 
 // `unvint BYTES`
-fn unvint(line: &[u8], name: &mut [u8], out: &mut [u8], at: usize) -> usize {
+fn unvint(line: &[u8], name: &mut [u8]) {
     let got = words::bytes(line, 1, name);
     if got.fault != 0 {
-        return say::fault(out, at, got.fault);
+        return say::fault(got.fault);
     }
     let n = got.n;
-    say_unvint(vint::read_u32_vint(&name[0..n]), out, at)
+    say_unvint(vint::read_u32_vint(&name[0..n]))
+}
+
+fn say_equal(a: &[u8], b: &[u8]) {
+    if fastcmp::fast_short_slice_compare(a, b) {
+        return say::line(b"equal");
+    }
+    say::line(b"different")
 }
 
 // `equal A B`
-fn equal(line: &[u8], name: &mut [u8], output: &mut [u8], out: &mut [u8], at: usize) -> usize {
+fn equal(line: &[u8], name: &mut [u8], output: &mut [u8]) {
     let g = words::two_bytes(line, name, output);
     if g.fault != 0 {
-        return say::fault(out, at, g.fault);
+        return say::fault(g.fault);
     }
     let n = g.n;
     let m = g.m;
-    if fastcmp::fast_short_slice_compare(&name[0..n], &output[0..m]) {
-        return say::line(out, at, b"equal");
-    }
-    say::line(out, at, b"different")
+    say_equal(&name[0..n], &output[0..m])
 }
 
-fn say_copied(c: Copied, out: &mut [u8], at: usize) -> usize {
-    match c {
-        Copied::Done => say::line(out, at, b"copied"),
-        Copied::Refused(n) => say::refused(out, at, n),
+fn say_copied(a: &[u8], b: &mut [u8]) {
+    let copied = fastcpy::fast_short_slice_copy(a, b);
+    match copied {
+        Copied::Done => say::line(b"copied"),
+        Copied::Refused(n) => say::refused(n),
     }
 }
 
 // `copy A B`: A over B.
-fn copy(line: &[u8], name: &mut [u8], output: &mut [u8], out: &mut [u8], at: usize) -> usize {
+fn copy(line: &[u8], name: &mut [u8], output: &mut [u8]) {
     let g = words::two_bytes(line, name, output);
     if g.fault != 0 {
-        return say::fault(out, at, g.fault);
+        return say::fault(g.fault);
     }
     let n = g.n;
     let m = g.m;
-    let copied = fastcpy::fast_short_slice_copy(&name[0..n], &mut output[0..m]);
-    say_copied(copied, out, at)
+    say_copied(&name[0..n], &mut output[0..m])
 }
 
 // ---- the bare arena
@@ -120,98 +125,90 @@ fn front(line: &[u8], lists: &[u8]) -> Taken
     words::length_at(line, 3, lists.len(), fault::PAST_THE_END)
 }
 
-fn say_allocated(a: Allocated, out: &mut [u8], at: usize) -> usize {
+fn say_allocated(a: Allocated) {
     match a {
         Allocated::At(place, after) => {
             let page = after.page;
             let used = after.used;
-            let p = say::told(out, at, b"at ", place as u64);
-            let q = say::told(out, p, b" ", page as u64);
-            say::number(out, q, b" ", used as u64)
+            say::told(b"at ", place as u64);
+            say::then(page as u64);
+            say::last(used as u64)
         }
-        Allocated::NoRoom => say::line(out, at, b"no room"),
-        Allocated::Refused(n) => say::refused(out, at, n),
+        Allocated::NoRoom => say::line(b"no room"),
+        Allocated::Refused(n) => say::refused(n),
     }
 }
 
 // `allocate PAGE USED LENGTH N`
-fn allocate(line: &[u8], lists: &[u8], out: &mut [u8], at: usize) -> usize {
+fn allocate(line: &[u8], lists: &[u8]) {
     let g = words::first_numbers(line, 4);
     let len = front(line, lists);
     let fault = fault::first(g.fault, len.fault);
     if fault != 0 {
-        return say::fault(out, at, fault);
+        return say::fault(fault);
     }
     let a = memory_arena::allocate_space(arena(g.a, g.b), len.n, g.d as usize);
-    say_allocated(a, out, at)
+    say_allocated(a)
 }
 
-fn say_got(t: Touched, got: &[u8], out: &mut [u8], at: usize) -> usize {
+fn say_got(t: Touched, got: &[u8]) {
     match t {
-        Touched::Done => say::bytes_line(out, at, got),
-        Touched::Declined(n) => say::refused(out, at, n),
+        Touched::Done => say::bytes_line(got),
+        Touched::Declined(n) => say::refused(n),
     }
 }
 
 // `get PAGE USED LENGTH PLACE N`
-fn get(line: &[u8], lists: &[u8], output: &mut [u8], out: &mut [u8], at: usize) -> usize {
+fn get(line: &[u8], lists: &[u8], output: &mut [u8]) {
     let g = words::first_numbers(line, 5);
     let len = front(line, lists);
     let room = words::length_at(line, 5, output.len(), fault::OUTPUT_TOO_LONG);
     let wide = fault::first(g.fault, words::beyond_32(g.d));
     let fault = fault::first(wide, fault::first(len.fault, room.fault));
     if fault != 0 {
-        return say::fault(out, at, fault);
+        return say::fault(fault);
     }
     let pages = len.n;
     let n = room.n;
     let place = words::low_32(g.d);
     let t = memory_arena::read(arena(g.a, g.b), &lists[0..pages], place, &mut output[0..n]);
-    say_got(t, &output[0..n], out, at)
+    say_got(t, &output[0..n])
 }
 
-fn say_put(t: Touched, out: &mut [u8], at: usize) -> usize {
+fn say_put(t: Touched) {
     match t {
-        Touched::Done => say::line(out, at, b"put"),
-        Touched::Declined(n) => say::refused(out, at, n),
+        Touched::Done => say::line(b"put"),
+        Touched::Declined(n) => say::refused(n),
     }
 }
 
 // `put PAGE USED LENGTH PLACE BYTES`
-fn put(line: &[u8], lists: &mut [u8], name: &mut [u8], out: &mut [u8], at: usize) -> usize {
+fn put(line: &[u8], lists: &mut [u8], name: &mut [u8]) {
     let g = words::first_numbers(line, 4);
     let len = front(line, lists);
     let b = words::bytes(line, 5, name);
     let wide = fault::first(g.fault, words::beyond_32(g.d));
     let fault = fault::first(wide, fault::first(b.fault, len.fault));
     if fault != 0 {
-        return say::fault(out, at, fault);
+        return say::fault(fault);
     }
     let pages = len.n;
     let n = b.n;
     let place = words::low_32(g.d);
     let t = memory_arena::write_at(arena(g.a, g.b), &mut lists[0..pages], place, &name[0..n]);
-    say_put(t, out, at)
+    say_put(t)
 }
 
 // The command of a number.
-pub fn play(
-    k: u64,
-    line: &[u8],
-    lists: &mut [u8],
-    name: &mut [u8],
-    output: &mut [u8],
-    out: &mut [u8],
-    at: usize,
-) -> usize {
+pub fn play(k: u64, line: &[u8], lists: &mut [u8], name: &mut [u8], output: &mut [u8]) {
     match k {
-        50 => hash(line, name, out, at),
-        51 => vint(line, out, at),
-        52 => unvint(line, name, out, at),
-        53 => equal(line, name, output, out, at),
-        54 => copy(line, name, output, out, at),
-        55 => allocate(line, lists, out, at),
-        56 => get(line, lists, output, out, at),
-        _ => put(line, lists, name, out, at),
+        50 => hash(line, name),
+        51 => vint(line),
+        52 => unvint(line, name),
+        53 => equal(line, name, output),
+        54 => copy(line, name, output),
+        55 => allocate(line, lists),
+        56 => get(line, lists, output),
+        _ => put(line, lists, name),
     }
 }

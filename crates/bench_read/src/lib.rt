@@ -14,112 +14,76 @@ use text::words;
 ghost use Prim.Native.Nat.{_≤_};
 ghost use lib.ListN.{length};
 
-fn say_lookup(l: Lookup, out: &mut [u8], at: usize) -> usize {
+fn say_lookup(l: Lookup) {
     match l {
-        Lookup::At(place) => say::number(out, at, b"at ", place as u64),
-        Lookup::Missing => say::line(out, at, b"absent"),
-        Lookup::Failed(n) => say::refused(out, at, n),
+        Lookup::At(place) => say::number(b"at ", place as u64),
+        Lookup::Missing => say::line(b"absent"),
+        Lookup::Failed(n) => say::refused(n),
     }
 }
 
 // `lookup NAME`
-fn lookup(
-    st: State,
-    line: &[u8],
-    table: &[u32],
-    keys: &[u8],
-    lists: &[u8],
-    name: &mut [u8],
-    out: &mut [u8],
-    at: usize,
-) -> usize {
+fn lookup(st: State, line: &[u8], table: &[u32], keys: &[u8], lists: &[u8], name: &mut [u8]) {
     let a = words::bytes(line, 1, name);
     if a.fault != 0 {
-        return say::fault(out, at, a.fault);
+        return say::fault(a.fault);
     }
     let n = a.n;
-    say_lookup(
-        store::look::lookup(st, table, keys, lists, &name[0..n]),
-        out,
-        at,
-    )
+    say_lookup(store::look::lookup(st, table, keys, lists, &name[0..n]))
 }
 
-fn say_outcome(o: Outcome, out: &mut [u8], at: usize) -> usize {
+fn say_outcome(o: Outcome) {
     match o {
-        Outcome::Length(n) => say::told(out, at, b"length ", n),
-        Outcome::Reading(n) => say::told(out, at, b"reading ", n),
+        Outcome::Length(n) => say::told(b"length ", n),
+        Outcome::Reading(n) => say::told(b"reading ", n),
         Outcome::Block(place, n) => {
-            let first = say::told(out, at, b"block ", place as u64);
-            say::told(out, first, b" ", n)
+            say::told(b"block ", place as u64);
+            say::then(n)
         }
-        Outcome::NoSuchBlock => say::text(out, at, b"no such block"),
+        Outcome::NoSuchBlock => say::text(b"no such block"),
     }
 }
 
 // A refusal; 8 tells a length beside its number.
-fn say_refusal(n: u32, told: u64, out: &mut [u8], at: usize) -> usize {
-    let first = say::told(out, at, b"refused ", n as u64);
+fn say_refusal(n: u32, told: u64) {
+    say::told(b"refused ", n as u64);
     if n == 8 {
-        return say::told(out, first, b" ", told);
+        say::then(told);
     }
-    first
 }
 
 // An answer by name, without the end of its line.
-fn say_answer(a: Answer, out: &mut [u8], at: usize) -> usize {
+fn say_answer(a: Answer) {
     match a {
-        Answer::Absent => say::text(out, at, b"absent"),
-        Answer::Found(o) => say_outcome(o, out, at),
-        Answer::Refused(n, told) => say_refusal(n, told, out, at),
+        Answer::Absent => say::text(b"absent"),
+        Answer::Found(o) => say_outcome(o),
+        Answer::Refused(n, told) => say_refusal(n, told),
     }
 }
 
 // `length NAME`
-fn length(
-    st: State,
-    line: &[u8],
-    table: &[u32],
-    keys: &[u8],
-    lists: &[u8],
-    name: &mut [u8],
-    out: &mut [u8],
-    at: usize,
-) -> usize {
+fn length(st: State, line: &[u8], table: &[u32], keys: &[u8], lists: &[u8], name: &mut [u8]) {
     let a = words::bytes(line, 1, name);
     if a.fault != 0 {
-        return say::fault(out, at, a.fault);
+        return say::fault(a.fault);
     }
     let n = a.n;
-    let place = say_answer(
-        store::look::length(st, table, keys, lists, &name[0..n]),
-        out,
-        at,
-    );
-    say::byte(out, place, b'\n')
+    say_answer(store::look::length(st, table, keys, lists, &name[0..n]));
+    say::end()
 }
 
 // `block NAME INDEX`
-fn block(
-    st: State,
-    line: &[u8],
-    table: &[u32],
-    keys: &[u8],
-    lists: &[u8],
-    name: &mut [u8],
-    out: &mut [u8],
-    at: usize,
-) -> usize {
+fn block(st: State, line: &[u8], table: &[u32], keys: &[u8], lists: &[u8], name: &mut [u8]) {
     let a = words::bytes(line, 1, name);
     let index = words::number_at(line, 2);
     let fault = fault::first(a.fault, index.fault);
     if fault != 0 {
-        return say::fault(out, at, fault);
+        return say::fault(fault);
     }
     let n = a.n;
     let answer = store::look::find_block(st, table, keys, lists, &name[0..n], index.value as usize);
-    let place = say_answer(answer, out, at);
-    say::byte(out, place, b'\n')
+    say_answer(answer);
+    say::end()
 }
 
 // Whether all bytes are still what the output was filled with.
@@ -134,11 +98,11 @@ fn is_kept(area: &[u8]) -> bool {
     true
 }
 
-fn say_kept(area: &[u8], out: &mut [u8], at: usize) -> usize {
+fn say_kept(area: &[u8]) {
     if is_kept(area) {
-        return say::line(out, at, b" kept");
+        return say::line(b" kept");
     }
-    say::line(out, at, b" changed")
+    say::line(b" changed")
 }
 
 // How many bytes an answer has read.
@@ -153,36 +117,27 @@ fn bytes_read(a: Answer) -> usize {
 }
 
 // A reading that was made: its bytes, and whether those behind them are kept.
-fn say_read(n: usize, output: &[u8], out: &mut [u8], at: usize) -> usize {
+fn say_read(n: usize, output: &[u8]) {
     let k = text::least(n, output.len());
-    let space = say::byte(out, at, b' ');
-    let shown = say::bytes(out, space, &output[0..k]);
-    say_kept(&output[k..], out, shown)
+    say::text(b" ");
+    say::bytes(&output[0..k]);
+    say_kept(&output[k..])
 }
 
 // A reading's answer.
-fn say_reading(a: Answer, output: &[u8], out: &mut [u8], at: usize) -> usize {
-    let said = say_answer(a, out, at);
+fn say_reading(a: Answer, output: &[u8]) {
+    say_answer(a);
     let Answer::Found(_) = a else {
-        return say_kept(output, out, said);
+        return say_kept(output);
     };
-    say_read(bytes_read(a), output, out, said)
+    say_read(bytes_read(a), output)
 }
 
 // A reading into an output, which is filled with ee before.
-fn read_into(
-    st: State,
-    table: &[u32],
-    keys: &[u8],
-    lists: &[u8],
-    name: &[u8],
-    output: &mut [u8],
-    out: &mut [u8],
-    at: usize,
-) -> usize {
+fn read_into(st: State, table: &[u32], keys: &[u8], lists: &[u8], name: &[u8], output: &mut [u8]) {
     text::fill(output, 0xee);
     let answer = store::look::read(st, table, keys, lists, name, output);
-    say_reading(answer, output, out, at)
+    say_reading(answer, output)
 }
 
 // `read NAME ROOM`
@@ -194,86 +149,55 @@ fn read(
     lists: &[u8],
     name: &mut [u8],
     output: &mut [u8],
-    out: &mut [u8],
-    at: usize,
-) -> usize {
+) {
     let a = words::bytes(line, 1, name);
     let room = words::length_at(line, 2, output.len(), fault::OUTPUT_TOO_LONG);
     let fault = fault::first(a.fault, room.fault);
     if fault != 0 {
-        return say::fault(out, at, fault);
+        return say::fault(fault);
     }
     let n = a.n;
     let m = room.n;
-    read_into(
-        st,
-        table,
-        keys,
-        lists,
-        &name[0..n],
-        &mut output[0..m],
-        out,
-        at,
-    )
+    read_into(st, table, keys, lists, &name[0..n], &mut output[0..m])
 }
 
 // `show PLACE LENGTH`
-fn show(
-    st: State,
-    line: &[u8],
-    table: &[u32],
-    keys: &[u8],
-    lists: &[u8],
-    out: &mut [u8],
-    at: usize,
-) -> usize {
+fn show(st: State, line: &[u8], table: &[u32], keys: &[u8], lists: &[u8]) {
     let g = words::first_numbers(line, 2);
     let fault = fault::first(g.fault, words::beyond_32(g.a));
     if fault != 0 {
-        return say::fault(out, at, fault);
+        return say::fault(fault);
     }
     let shown = store::look::show_block(st, table, keys, lists, words::low_32(g.a), g.b as usize);
-    say::bytes_line(out, at, shown)
+    say::bytes_line(shown)
 }
 
-fn say_listed(l: Listed, out: &mut [u8], at: usize) -> usize {
+fn say_listed(l: Listed) {
     match l {
         Listed::Bucket(i, place) => {
-            let first = say::told(out, at, b"bucket ", i as u64);
-            say::number(out, first, b" ", place as u64)
+            say::told(b"bucket ", i as u64);
+            say::last(place as u64)
         }
-        Listed::NoMore => say::line(out, at, b"none"),
-        Listed::Stopped(n) => say::refused(out, at, n),
+        Listed::NoMore => say::line(b"none"),
+        Listed::Stopped(n) => say::refused(n),
     }
 }
 
 // `next INDEX`
-fn next(
-    st: State,
-    line: &[u8],
-    table: &[u32],
-    keys: &[u8],
-    lists: &[u8],
-    out: &mut [u8],
-    at: usize,
-) -> usize {
+fn next(st: State, line: &[u8], table: &[u32], keys: &[u8], lists: &[u8]) {
     let index = words::number_at(line, 1);
     if index.fault != 0 {
-        return say::fault(out, at, index.fault);
+        return say::fault(index.fault);
     }
-    say_listed(
-        store::look::next_occupied(st, table, keys, lists, index.value as usize),
-        out,
-        at,
-    )
+    say_listed(store::look::next_occupied(st, table, keys, lists, index.value as usize))
 }
 
 // `count`
-fn count(st: State, table: &[u32], keys: &[u8], lists: &[u8], out: &mut [u8], at: usize) -> usize {
+fn count(st: State, table: &[u32], keys: &[u8], lists: &[u8]) {
     let counted = store::look::key_count(st, table, keys, lists);
     match counted {
-        Counted::Keys(n) => say::number(out, at, b"keys ", n as u64),
-        Counted::Unknown(n) => say::refused(out, at, n),
+        Counted::Keys(n) => say::number(b"keys ", n as u64),
+        Counted::Unknown(n) => say::refused(n),
     }
 }
 
@@ -287,16 +211,14 @@ pub fn play(
     lists: &[u8],
     name: &mut [u8],
     output: &mut [u8],
-    out: &mut [u8],
-    at: usize,
-) -> usize {
+) {
     match k {
-        20 => lookup(st, line, table, keys, lists, name, out, at),
-        21 => length(st, line, table, keys, lists, name, out, at),
-        22 => read(st, line, table, keys, lists, name, output, out, at),
-        23 => block(st, line, table, keys, lists, name, out, at),
-        24 => show(st, line, table, keys, lists, out, at),
-        25 => next(st, line, table, keys, lists, out, at),
-        _ => count(st, table, keys, lists, out, at),
+        20 => lookup(st, line, table, keys, lists, name),
+        21 => length(st, line, table, keys, lists, name),
+        22 => read(st, line, table, keys, lists, name, output),
+        23 => block(st, line, table, keys, lists, name),
+        24 => show(st, line, table, keys, lists),
+        25 => next(st, line, table, keys, lists),
+        _ => count(st, table, keys, lists),
     }
 }

@@ -9,12 +9,6 @@ use text::words;
 ghost use Prim.Native.Nat.{_+_, _≤_};
 ghost use lib.ListN.{length};
 
-// The state after a line, and up to where the answers are filled.
-pub struct Done {
-    pub st: State,
-    pub at: usize,
-}
-
 const COUNT: usize = 11;
 
 // The state's numbers, in the order in which they are told. The end is 0 at the front of the lent table and 1 at its
@@ -116,11 +110,6 @@ fn with_number(st: State, k: usize, n: u64) -> State {
     }
 }
 
-// Says the name of number k.
-fn say_name(out: &mut [u8], at: usize, k: usize) -> usize {
-    say::text(out, at, words::word(&NAMES, k))
-}
-
 // The number that a name stands for, COUNT where there is none.
 fn field(name: &[u8]) -> usize {
     words::place_of(&NAMES, name)
@@ -149,38 +138,35 @@ fn fault_of(k: usize, n: words::Number) -> u32 {
     0
 }
 
-// `set FIELD NUMBER`
-fn set(st: State, line: &[u8], out: &mut [u8], at: usize) -> Done {
+// `set FIELD NUMBER`: the state afterwards.
+fn set(st: State, line: &[u8]) -> State {
     let k = field(words::word(line, 1));
     let n = words::number_at(line, 2);
     let fault = fault_of(k, n);
     if fault != 0 {
-        return Done {
-            st,
-            at: say::fault(out, at, fault),
-        };
+        say::fault(fault);
+        return st;
     }
-    Done {
-        st: with_number(st, k, n.value),
-        at: say::line(out, at, b"set"),
-    }
+    say::line(b"set");
+    with_number(st, k, n.value)
 }
 
-fn say_number(st: State, out: &mut [u8], at: usize, k: usize) -> usize {
-    let space = say::byte(out, at, b' ');
-    let name = say_name(out, space, k);
-    say::told(out, name, b"=", number_of(st, k))
+// Says number k of a state behind its name.
+fn say_number(st: State, k: usize) {
+    say::text(b" ");
+    say::text(words::word(&NAMES, k));
+    say::told(b"=", number_of(st, k));
 }
 
 // `state`
-fn tell(st: State, out: &mut [u8], at: usize) -> usize {
-    let mut place = say::text(out, at, b"state");
+fn tell(st: State) {
+    say::text(b"state");
     let mut k = 0;
     while k < COUNT {
-        place = say_number(st, out, place, k);
+        say_number(st, k);
         k += 1;
     }
-    say::byte(out, place, b'\n')
+    say::end();
 }
 
 // Writes number k as 8 little-endian bytes.
@@ -212,13 +198,11 @@ fn hash_at(st: State, into: &mut [u8]) -> u32
     murmurhash2::murmurhash2(into, 0)
 }
 
-// The command of a number.
-pub fn play(k: u64, st: State, line: &[u8], out: &mut [u8], at: usize) -> Done {
-    match k {
-        30 => Done {
-            st,
-            at: tell(st, out, at),
-        },
-        _ => set(st, line, out, at),
+// The command of a number: the state afterwards.
+pub fn play(k: u64, st: State, line: &[u8]) -> State {
+    if k == 30 {
+        tell(st);
+        return st;
     }
+    set(st, line)
 }

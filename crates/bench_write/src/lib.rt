@@ -1,66 +1,50 @@
 // The testbench's commands that write a store: create, append.
 //
-// Each reads its words, makes one call and says what it answered. It promises that it ends and stays inside what is
-// lent, whatever the line, the state and the memory are; what the call answers, store promises. It uses memory_arena
-// and store (for the state), text, say and bench_state.
-use bench_state::Done;
+// Each reads its words, makes one call, says what it answered and gives back the state. It promises that it ends and
+// stays inside what is lent, whatever the line, the state and the memory are; what the call answers, store promises. It
+// uses memory_arena and store (for the state), text and say.
 use store::Appended;
 use store::Created;
 use store::State;
 use text::fault;
 use text::words;
-ghost use Prim.Native.Nat.{_≤_};
-ghost use lib.ListN.{length};
 
-fn said(st: State, at: usize) -> Done {
-    Done { st, at }
-}
-
-fn say_created(c: Created, st: State, out: &mut [u8], at: usize) -> Done {
+fn say_created(c: Created, st: State) -> State {
     match c {
-        Created::Made(fresh) => said(fresh, say::line(out, at, b"created")),
-        Created::Barred(n) => said(st, say::refused(out, at, n)),
+        Created::Made(fresh) => {
+            say::line(b"created");
+            fresh
+        }
+        Created::Barred(n) => {
+            say::refused(n);
+            st
+        }
     }
 }
 
 // `create CAPACITY SEED`
-fn create(
-    st: State,
-    line: &[u8],
-    table: &mut [u32],
-    keys: &[u8],
-    lists: &[u8],
-    out: &mut [u8],
-    at: usize,
-) -> Done {
+fn create(st: State, line: &[u8], table: &mut [u32], keys: &[u8], lists: &[u8]) -> State {
     let g = words::first_numbers(line, 2);
     let fault = fault::first(g.fault, words::beyond_32(g.b));
     if fault != 0 {
-        return said(st, say::fault(out, at, fault));
+        say::fault(fault);
+        return st;
     }
     let made = store::create::create(g.a as usize, words::low_32(g.b), table, keys, lists);
-    say_created(made, st, out, at)
+    say_created(made, st)
 }
 
-fn say_appended(a: Appended, out: &mut [u8], at: usize) -> Done {
+fn say_appended(a: Appended) -> State {
     match a {
-        Appended::Accepted(next) => said(next, say::line(out, at, b"accepted")),
-        Appended::Declined(same, n) => said(same, say::refused(out, at, n)),
+        Appended::Accepted(next) => {
+            say::line(b"accepted");
+            next
+        }
+        Appended::Declined(same, n) => {
+            say::refused(n);
+            same
+        }
     }
-}
-
-fn append_to(
-    st: State,
-    table: &mut [u32],
-    keys: &mut [u8],
-    lists: &mut [u8],
-    name: &[u8],
-    bytes: &[u8],
-    out: &mut [u8],
-    at: usize,
-) -> Done {
-    let appended = store::write::append(st, table, keys, lists, name, bytes);
-    say_appended(appended, out, at)
 }
 
 // `append NAME BYTES`
@@ -72,19 +56,19 @@ fn append(
     lists: &mut [u8],
     name: &mut [u8],
     output: &mut [u8],
-    out: &mut [u8],
-    at: usize,
-) -> Done {
+) -> State {
     let g = words::two_bytes(line, name, output);
     if g.fault != 0 {
-        return said(st, say::fault(out, at, g.fault));
+        say::fault(g.fault);
+        return st;
     }
     let n = g.n;
     let m = g.m;
-    append_to(st, table, keys, lists, &name[0..n], &output[0..m], out, at)
+    let appended = store::write::append(st, table, keys, lists, &name[0..n], &output[0..m]);
+    say_appended(appended)
 }
 
-// The command of a number.
+// The command of a number: the state afterwards.
 pub fn play(
     k: u64,
     st: State,
@@ -94,11 +78,9 @@ pub fn play(
     lists: &mut [u8],
     name: &mut [u8],
     output: &mut [u8],
-    out: &mut [u8],
-    at: usize,
-) -> Done {
+) -> State {
     match k {
-        10 => create(st, line, table, keys, lists, out, at),
-        _ => append(st, line, table, keys, lists, name, output, out, at),
+        10 => create(st, line, table, keys, lists),
+        _ => append(st, line, table, keys, lists, name, output),
     }
 }

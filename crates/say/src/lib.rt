@@ -1,67 +1,56 @@
-// Answers to the lines of a script, gathered in a lent buffer and written out when it is full.
+// Answers to the lines of a script, on standard output.
 //
-// Each function is told up to where the buffer is filled, and answers up to where it is filled afterwards. It promises
-// that each call ends and stays inside what is lent, and asks nothing of its callers; what is written goes through a C
-// function whose contract the kit assumes. It uses text, and the kit's io and libc.
+// It promises that each call ends and stays inside what is lent, and asks nothing of its callers; what is written goes
+// through a C function whose contract the kit assumes. It uses text, and the kit's io and libc.
 use libc::STDOUT_FILENO;
+ghost use Prim.Native.Nat.{_*_, _≤_};
+ghost use lib.ListN.{length};
 
-// Writes out what was gathered.
-pub fn flush(out: &[u8], at: usize) {
-    if at <= out.len() {
-        io::write_all(STDOUT_FILENO, &out[0..at]);
-    }
+pub fn text(said: &[u8]) {
+    io::write_all(STDOUT_FILENO, said);
 }
 
-pub fn byte(out: &mut [u8], at: usize, b: u8) -> usize {
-    if at < out.len() {
-        out[at] = b;
-        return at + 1;
-    }
-    flush(out, at);
-    if 0 < out.len() {
-        out[0] = b;
-        return 1;
-    }
-    0
-}
-
-pub fn text(out: &mut [u8], at: usize, said: &[u8]) -> usize {
-    let mut place = at;
-    let mut i = 0;
-    while i < said.len() {
-        place = byte(out, place, said[i]);
-        i += 1;
-    }
-    place
+// The end of a line.
+pub fn end() {
+    text(b"\n");
 }
 
 // A text that ends its line.
-pub fn line(out: &mut [u8], at: usize, said: &[u8]) -> usize {
-    let place = text(out, at, said);
-    byte(out, place, b'\n')
+pub fn line(said: &[u8]) {
+    text(said);
+    end();
 }
 
-pub fn decimal(out: &mut [u8], at: usize, n: u64) -> usize {
-    let mut digits = [0u8; 20];
-    let k = io::decimal(n, &mut digits);
-    text(out, at, &digits[..k])
+fn decimal(n: u64) {
+    io::print_decimal(STDOUT_FILENO, n);
 }
 
 // A text, then a number.
-pub fn told(out: &mut [u8], at: usize, said: &[u8], n: u64) -> usize {
-    let place = text(out, at, said);
-    decimal(out, place, n)
+pub fn told(said: &[u8], n: u64) {
+    text(said);
+    decimal(n);
 }
 
 // A text, then a number that ends the line.
-pub fn number(out: &mut [u8], at: usize, said: &[u8], n: u64) -> usize {
-    let place = told(out, at, said, n);
-    byte(out, place, b'\n')
+pub fn number(said: &[u8], n: u64) {
+    told(said, n);
+    end();
+}
+
+// A space, then a number.
+pub fn then(n: u64) {
+    told(b" ", n);
+}
+
+// A space, then a number that ends the line.
+pub fn last(n: u64) {
+    then(n);
+    end();
 }
 
 // A refusal by its number.
-pub fn refused(out: &mut [u8], at: usize, n: u32) -> usize {
-    number(out, at, b"refused ", n as u64)
+pub fn refused(n: u32) {
+    number(b"refused ", n as u64);
 }
 
 fn hex_digit(n: u8) -> u8 {
@@ -72,70 +61,78 @@ fn hex_digit(n: u8) -> u8 {
     87 + d
 }
 
-fn pair(out: &mut [u8], at: usize, b: u8) -> usize {
-    let place = byte(out, at, hex_digit(b / 16));
-    byte(out, place, hex_digit(b))
-}
-
-fn pairs(out: &mut [u8], at: usize, bytes: &[u8]) -> usize {
-    let mut place = at;
+// Puts two hex digits for each byte at the front of an area.
+fn lay_out(bytes: &[u8], into: &mut [u8])
+    requires { ⌜ 2 * length (now bytes) ≤ length (now into) ⌝ }
+{
     let mut i = 0;
     while i < bytes.len() {
-        place = pair(out, place, bytes[i]);
+        into[2 * i] = hex_digit(bytes[i] / 16);
+        into[2 * i + 1] = hex_digit(bytes[i]);
         i += 1;
     }
-    place
+}
+
+// At most 2,048 bytes as hex pairs, laid out in an area of 4,096.
+fn some_pairs(bytes: &[u8], into: &mut [u8]) {
+    let n = 2 * text::least(bytes.len(), into.len() / 2);
+    let k = n / 2;
+    lay_out(&bytes[0..k], into);
+    text(&into[0..n]);
+}
+
+fn pairs(bytes: &[u8]) {
+    let mut into = io::buffer();
+    let mut at = 0;
+    while at < bytes.len() {
+        let end = at + text::least(bytes.len() - at, 2048);
+        some_pairs(&bytes[at..end], &mut into);
+        at = end;
+    }
 }
 
 // Bytes as hex pairs, or `-` for none.
-pub fn bytes(out: &mut [u8], at: usize, shown: &[u8]) -> usize {
+pub fn bytes(shown: &[u8]) {
     if shown.len() == 0 {
-        return byte(out, at, b'-');
+        text(b"-");
     }
-    pairs(out, at, shown)
+    pairs(shown);
 }
 
 // Bytes that end their line.
-pub fn bytes_line(out: &mut [u8], at: usize, shown: &[u8]) -> usize {
-    let place = bytes(out, at, shown);
-    byte(out, place, b'\n')
+pub fn bytes_line(shown: &[u8]) {
+    bytes(shown);
+    end();
 }
 
-fn one_word(out: &mut [u8], at: usize, n: u32) -> usize {
-    decimal(out, at, n as u64)
+fn one_word(n: u32) {
+    decimal(n as u64);
 }
 
-fn spaced_word(out: &mut [u8], at: usize, n: u32) -> usize {
-    let place = byte(out, at, b' ');
-    one_word(out, place, n)
+fn spaced_word(n: u32) {
+    then(n as u64);
 }
 
-fn spaced(out: &mut [u8], at: usize, words: &[u32]) -> usize {
-    let mut place = at;
+fn spaced(words: &[u32]) {
     let mut i = 0;
     while i < words.len() {
-        place = spaced_word(out, place, words[i]);
+        spaced_word(words[i]);
         i += 1;
     }
-    place
-}
-
-fn all_words(out: &mut [u8], at: usize, shown: &[u32]) -> usize {
-    if shown.len() == 0 {
-        return byte(out, at, b'-');
-    }
-    let place = one_word(out, at, shown[0]);
-    spaced(out, place, &shown[1..])
 }
 
 // Words in decimal, one space apart, or `-` for none, that end their line.
-pub fn words_line(out: &mut [u8], at: usize, shown: &[u32]) -> usize {
-    let place = all_words(out, at, shown);
-    byte(out, place, b'\n')
+pub fn words_line(shown: &[u32]) {
+    if shown.len() == 0 {
+        return line(b"-");
+    }
+    one_word(shown[0]);
+    spaced(&shown[1..]);
+    end();
 }
 
 // Why a line can't be read: the row of the fault's number, from 1 on (text::fault).
-pub fn fault(out: &mut [u8], at: usize, n: u32) -> usize {
+pub fn fault(n: u32) {
     let rows = b"
 ? not a number
 ? number too large
@@ -148,5 +145,5 @@ pub fn fault(out: &mut [u8], at: usize, n: u32) -> usize {
 ? no such memory: at most 131072 words, 2097152 and 3145728 bytes
 ? line too long
 ? unknown command";
-    line(out, at, text::scan::part(rows, n as usize, b'\n'))
+    line(text::scan::part(rows, n as usize, b'\n'));
 }

@@ -14,8 +14,6 @@ pub struct Lines {
     pub whole: bool,
     // whether the input may go on behind the line
     pub more: bool,
-    // up to where answers are gathered
-    pub at: usize,
 }
 
 // Before the first line.
@@ -27,7 +25,6 @@ pub fn none() -> Lines {
         long: false,
         whole: false,
         more: true,
-        at: 0,
     }
 }
 
@@ -53,13 +50,11 @@ fn take(l: Lines, chunk: &[u8], line: &mut [u8]) -> Lines {
     next
 }
 
-// Reads on, after what was gathered is written out. Where nothing more comes, the line ends with the input.
-fn refill(l: Lines, chunk: &mut [u8], out: &[u8]) -> Lines {
-    say::flush(out, l.at);
+// Reads on. Where nothing more comes, the line ends with the input.
+fn refill(l: Lines, chunk: &mut [u8]) -> Lines {
     let got = libc::read(STDIN_FILENO, chunk);
     let n = io::count(got, chunk);
     let mut next = l;
-    next.at = 0;
     next.from = 0;
     next.to = n;
     next.more = 0 < n;
@@ -68,32 +63,30 @@ fn refill(l: Lines, chunk: &mut [u8], out: &[u8]) -> Lines {
 }
 
 // Takes what the chunk has, or reads on where that is all taken.
-fn step(l: Lines, chunk: &mut [u8], line: &mut [u8], out: &[u8]) -> Lines {
+fn step(l: Lines, chunk: &mut [u8], line: &mut [u8]) -> Lines {
     let to = text::least(l.to, chunk.len());
     if l.from < to {
         return take(l, &chunk[0..to], line);
     }
-    refill(l, chunk, out)
+    refill(l, chunk)
 }
 
 // No line yet, behind what was taken.
-fn begun(l: Lines, at: usize) -> Lines {
+fn begun(l: Lines) -> Lines {
     let mut next = l;
     next.held = 0;
     next.long = false;
     next.whole = false;
-    next.at = at;
     next
 }
 
-// The next line of standard input, at the front of `line`; a last one that lacks its end too. What is gathered in `out`
-// up to `at` is written out before the input is waited for. A proved loop has to end, and nothing says that a line
-// does: the loop counts its turns down from a number that no run uses up.
-pub fn next(l: Lines, chunk: &mut [u8], line: &mut [u8], out: &[u8], at: usize) -> Lines {
-    let mut now = begun(l, at);
+// The next line of standard input, at the front of `line`; a last one that lacks its end too. A proved loop has to end,
+// and nothing says that a line does: the loop counts its turns down from a number that no run uses up.
+pub fn next(l: Lines, chunk: &mut [u8], line: &mut [u8]) -> Lines {
+    let mut now = begun(l);
     let mut turns = u64::MAX;
     while 0 < turns {
-        now = step(now, chunk, line, out);
+        now = step(now, chunk, line);
         if now.whole {
             return now;
         }

@@ -53,28 +53,26 @@ pub fn number_of(table: &[u8], line: &[u8]) -> u64 {
 }
 
 // Why a line is no command of the table: its name isn't there, or its words are more or fewer.
-pub fn say_fault(out: &mut [u8], at: usize, table: &[u8], line: &[u8]) -> usize {
+pub fn say_fault(table: &[u8], line: &[u8]) {
     let row = row_of(table, word(line, 0));
     if row.len() == 0 {
-        return say::fault(out, at, text::fault::UNKNOWN);
+        return say::fault(text::fault::UNKNOWN);
     }
-    let said = say::text(out, at, b"? usage: ");
-    say::line(out, said, usage(row))
+    say::text(b"? usage: ");
+    say::line(usage(row))
 }
 
-fn say_row(out: &mut [u8], at: usize, row: &[u8]) -> usize {
-    let said = say::text(out, at, b"# ");
-    say::line(out, said, usage(row))
+fn say_row(row: &[u8]) {
+    say::text(b"# ");
+    say::line(usage(row))
 }
 
 // Says how all commands are written, each as a line that begins with `# `.
-pub fn say_all(out: &mut [u8], at: usize, table: &[u8]) -> usize {
-    let mut place = at;
+pub fn say_all(table: &[u8]) {
     let mut from = 0;
     while from < table.len() {
         let end = find(table, from, b'\n');
-        place = say_row(out, place, &table[from..end]);
+        say_row(&table[from..end]);
         from = end + 1;
     }
-    place
 }

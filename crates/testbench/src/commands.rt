@@ -47,21 +47,19 @@ pub fn number_of(line: &[u8], is_long: bool) -> u64 {
 }
 
 // Why a line can't be played; nothing where it is passed over.
-pub fn say_fault(out: &mut [u8], at: usize, line: &[u8], is_long: bool) -> usize {
+pub fn say_fault(line: &[u8], is_long: bool) {
     if is_passed_over(line) {
-        return at;
+        return;
     }
     if is_long {
-        return say::fault(out, at, fault::LINE_TOO_LONG);
+        return say::fault(fault::LINE_TOO_LONG);
     }
-    rows::say_fault(out, at, &TABLE, line)
+    rows::say_fault(&TABLE, line)
 }
 
 // `help`: how words are written, then the commands, one to a line.
-pub fn help(out: &mut [u8], at: usize) -> usize {
-    let words = say::text(
-        out,
-        at,
+pub fn help() {
+    say::text(
         b"# a command to a line, words one space apart; an empty line and one that begins with # are passed over
 # NUMBERS are decimal
 # BYTES and NAMES are hex pairs, - for none, N*HH for N times a byte, joined by +, or 'letters-and-digits
@@ -69,5 +67,5 @@ pub fn help(out: &mut [u8], at: usize) -> usize {
 # allocate, get and put: the bare arena over the first LENGTH bytes of the lent list area
 ",
     );
-    rows::say_all(out, words, &TABLE)
+    rows::say_all(&TABLE)
 }

@@ -1,19 +1,16 @@
 // The lines, played on the lent areas.
-use bench_state::Done;
+use crate::commands;
 use script::lines;
 use script::lines::Lines;
 use store::State;
-use text::fault;
 ghost use Prim.Native.Nat.{_<_};
 
-// What the testbench remembers between lines: the store's state, how much of each area is lent, and up to where the
-// answers are gathered.
+// What the testbench remembers between lines: the store's state, and how much of each area is lent.
 struct Bench {
     st: State,
     words: usize,
     key_bytes: usize,
     list_bytes: usize,
-    at: usize,
 }
 
 fn fresh() -> Bench {
@@ -22,43 +19,45 @@ fn fresh() -> Bench {
         words: 0,
         key_bytes: 0,
         list_bytes: 0,
-        at: 0,
     }
-}
-
-fn with_at(b: Bench, at: usize) -> Bench {
-    let mut next = b;
-    next.at = at;
-    next
 }
 
 // `lend WORDS KEYBYTES LISTBYTES HH`: the state is of zeros then.
-fn lend(
-    b: Bench,
-    line: &[u8],
-    table: &mut [u32],
-    keys: &mut [u8],
-    lists: &mut [u8],
-    out: &mut [u8],
-) -> Bench {
+fn lend(b: Bench, line: &[u8], table: &mut [u32], keys: &mut [u8], lists: &mut [u8]) -> Bench {
     let p = bench_areas::lend(line, table, keys, lists);
     if p.fault != 0 {
-        return with_at(b, say::fault(out, b.at, p.fault));
+        say::fault(p.fault);
+        return b;
     }
+    say::line(b"lent");
     Bench {
         st: bench_state::zeros(),
         words: p.words,
         key_bytes: p.key_bytes,
         list_bytes: p.list_bytes,
-        at: say::line(out, b.at, b"lent"),
     }
 }
 
-fn said(st: State, at: usize) -> Done {
-    Done { st, at }
+// A command that leaves the state as it is.
+fn play_same(
+    k: u64,
+    st: State,
+    line: &[u8],
+    table: &mut [u32],
+    keys: &mut [u8],
+    lists: &mut [u8],
+    name: &mut [u8],
+    output: &mut [u8],
+) {
+    match k / 10 {
+        2 => bench_read::play(k, st, line, table, keys, lists, name, output),
+        4 => bench_areas::play(k, st, line, table, keys, lists, name, output),
+        5 => bench_lower::play(k, line, lists, name, output),
+        _ => commands::help(),
+    }
 }
 
-// The command of a number, on the lent areas.
+// The command of a number, on the lent areas: the state afterwards.
 fn play(
     k: u64,
     st: State,
@@ -68,31 +67,20 @@ fn play(
     lists: &mut [u8],
     name: &mut [u8],
     output: &mut [u8],
-    out: &mut [u8],
-    at: usize,
-) -> Done {
-    match k / 10 {
-        1 => bench_write::play(k, st, line, table, keys, lists, name, output, out, at),
-        2 => said(
-            st,
-            bench_read::play(k, st, line, table, keys, lists, name, output, out, at),
-        ),
-        3 => bench_state::play(k, st, line, out, at),
-        4 => said(
-            st,
-            bench_areas::play(k, st, line, table, keys, lists, name, output, out, at),
-        ),
-        5 => said(st, bench_lower::play(k, line, lists, name, output, out, at)),
-        _ => said(st, crate::commands::help(out, at)),
+) -> State {
+    if k / 10 == 1 {
+        return bench_write::play(k, st, line, table, keys, lists, name, output);
     }
+    if k / 10 == 3 {
+        return bench_state::play(k, st, line);
+    }
+    play_same(k, st, line, table, keys, lists, name, output);
+    st
 }
 
-fn with_done(b: Bench, d: Done) -> Bench {
-    let st = d.st;
-    let at = d.at;
+fn with_state(b: Bench, st: State) -> Bench {
     let mut next = b;
     next.st = st;
-    next.at = at;
     next
 }
 
@@ -106,13 +94,12 @@ fn play_lent(
     lists: &mut [u8],
     name: &mut [u8],
     output: &mut [u8],
-    out: &mut [u8],
 ) -> Bench {
     let st = b.st;
     let words = text::least(b.words, table.len());
     let key_bytes = text::least(b.key_bytes, keys.len());
     let list_bytes = text::least(b.list_bytes, lists.len());
-    let done = play(
+    let next = play(
         k,
         st,
         line,
@@ -121,36 +108,12 @@ fn play_lent(
         &mut lists[0..list_bytes],
         name,
         output,
-        out,
-        b.at,
     );
-    with_done(b, done)
-}
-
-// A line of any kind.
-fn play_line(
-    b: Bench,
-    line: &[u8],
-    is_long: bool,
-    table: &mut [u32],
-    keys: &mut [u8],
-    lists: &mut [u8],
-    name: &mut [u8],
-    output: &mut [u8],
-    out: &mut [u8],
-) -> Bench {
-    let k = crate::commands::number_of(line, is_long);
-    if k == 0 {
-        return with_at(b, crate::commands::say_fault(out, b.at, line, is_long));
-    }
-    if k == 1 {
-        return lend(b, line, table, keys, lists, out);
-    }
-    play_lent(b, k, line, table, keys, lists, name, output, out)
+    with_state(b, next)
 }
 
 // The line that was read.
-fn play_next(
+fn play_line(
     b: Bench,
     l: Lines,
     line: &[u8],
@@ -159,20 +122,17 @@ fn play_next(
     lists: &mut [u8],
     name: &mut [u8],
     output: &mut [u8],
-    out: &mut [u8],
 ) -> Bench {
     let n = text::least(l.held, line.len());
-    play_line(
-        with_at(b, l.at),
-        &line[0..n],
-        l.long,
-        table,
-        keys,
-        lists,
-        name,
-        output,
-        out,
-    )
+    let k = commands::number_of(&line[0..n], l.long);
+    if k == 0 {
+        commands::say_fault(&line[0..n], l.long);
+        return b;
+    }
+    if k == 1 {
+        return lend(b, &line[0..n], table, keys, lists);
+    }
+    play_lent(b, k, &line[0..n], table, keys, lists, name, output)
 }
 
 // One turn less, or none where nothing more may come.
@@ -196,17 +156,15 @@ fn play_input(
     lists: &mut [u8],
     name: &mut [u8],
     output: &mut [u8],
-    out: &mut [u8],
 ) {
     let mut bench = fresh();
     let mut lines = lines::none();
     let mut turns = u64::MAX;
     while 0 < turns {
-        lines = lines::next(lines, chunk, line, out, bench.at);
-        bench = play_next(bench, lines, line, table, keys, lists, name, output, out);
+        lines = lines::next(lines, chunk, line);
+        bench = play_line(bench, lines, line, table, keys, lists, name, output);
         turns = turns_left(turns, lines.more);
     }
-    say::flush(out, bench.at);
 }
 
 // The testbench over its memory.
@@ -219,15 +177,5 @@ pub fn run(
 ) {
     let mut chunk = io::large_buffer();
     let mut line = io::large_buffer();
-    let mut out = io::large_buffer();
-    play_input(
-        &mut chunk,
-        &mut line,
-        table,
-        keys,
-        lists,
-        name,
-        output,
-        &mut out,
-    );
+    play_input(&mut chunk, &mut line, table, keys, lists, name, output);
 }

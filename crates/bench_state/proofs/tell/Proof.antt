@@ -1,16 +1,14 @@
--- The invariant: the buffer keeps its length. The measure is the numbers that are left. Assumes nothing.
-use lib.ListN.{length}
-use mathlib.Core.Path.{_≡_}
+-- The measure is the numbers that are left. Assumes nothing.
 use Prim.Native.Nat.{_≤_, _-_}
 use borrow.Author.Needs.{needs}
 use Rattle.bench_state.proofs.tell.Statement.{statement}
 use Rattle.bench_state.proofs.tell.Tie as tie
 
 abbrev Inv-loop : tie.InvT-loop
-Inv-loop st out₀ at place₀ k₀ out place k = (k ≤ 11) × (length out ≡ length out₀)
+Inv-loop st k₀ k = k ≤ 11
 
 abbrev μ-loop : tie.MeasureT-loop
-μ-loop st out₀ at place₀ k₀ out place k = 11 - k
+μ-loop st k₀ k = 11 - k
 
 pub tell-spec : {M : Type 1} → statement M
 tell-spec =
@@ -26,5 +24,4 @@ tell-spec =
     (λ c. search needs)
     (λ c. search needs)
     (λ c _. search needs)
-    (λ c. search needs)
     (λ c. search needs))

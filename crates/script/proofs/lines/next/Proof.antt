@@ -6,11 +6,11 @@ use Rattle.script.proofs.lines.next.Statement.{statement}
 use Rattle.script.proofs.lines.next.Tie as tie
 
 abbrev Inv-loop : tie.InvT-loop
-Inv-loop chunk₀ line₀ out at now₀ turns₀ chunk line now turns =
+Inv-loop chunk₀ line₀ now₀ turns₀ chunk line now turns =
     (length chunk ≡ length chunk₀) × (length line ≡ length line₀)
 
 abbrev μ-loop : tie.MeasureT-loop
-μ-loop chunk₀ line₀ out at now₀ turns₀ chunk line now turns = turns
+μ-loop chunk₀ line₀ now₀ turns₀ chunk line now turns = turns
 
 pub next-spec : {M : Type 1} → statement M
 next-spec =

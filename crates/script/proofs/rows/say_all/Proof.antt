@@ -1,16 +1,15 @@
--- As in row_of, and the buffer keeps its length. Assumes nothing.
+-- As in row_of. Assumes nothing.
 use Prim.Native.Nat.{_≤_, _-_, _+_}
-use mathlib.Core.Path.{_≡_}
 use lib.ListN.{length}
 use borrow.Author.Needs.{needs}
 use Rattle.script.proofs.rows.say_all.Statement.{statement}
 use Rattle.script.proofs.rows.say_all.Tie as tie
 
 abbrev Inv-loop : tie.InvT-loop
-Inv-loop out₀ at table place₀ from₀ out place from = (from ≤ length table + 1) × (length out ≡ length out₀)
+Inv-loop table from₀ from = from ≤ length table + 1
 
 abbrev μ-loop : tie.MeasureT-loop
-μ-loop out₀ at table place₀ from₀ out place from = length table - from
+μ-loop table from₀ from = length table - from
 
 pub say-all-spec : {M : Type 1} → statement M
 say-all-spec =
@@ -24,7 +23,6 @@ say-all-spec =
     (λ c. search needs)
     (λ c. search needs)
     (λ c _. search needs)
-    (λ c. search needs)
     (λ c. search needs)
     (λ c. search needs)
     (λ c. search needs)
