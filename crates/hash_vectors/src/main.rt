@@ -1,16 +1,10 @@
-// Runs the outside hash vectors: rows `SEED LENGTH A B C HASH` on standard input, decimal, one space apart, a row a line; the key's byte i is
-// (A + B * i + C * (i / 256)) mod 256. It prints each row whose hash differs, then how many rows it read and how many differed.
-// docs/VECTORS.md says where the rows come from. It promises only that it ends and stays in bounds.
-use libc::STDIN_FILENO;
-use libc::STDOUT_FILENO;
-ghost use Prim.Native.Nat.{_≤_, _<_};
-ghost use lib.ListN.{length};
-
-// A number read from a text, and the place behind it.
-struct Read {
-    value: u64,
-    next: usize,
-}
+// Runs the outside hash vectors: rows `SEED LENGTH A B C HASH` on standard input, decimal, one space apart, a row a
+// line; the key's byte i is (A + B * i + C * (i / 256)) mod 256. It prints each row whose hash differs, then how many
+// rows it read and how many differed. docs/VECTORS.md says where the rows come from. It promises only that it ends and
+// stays in bounds. It uses numbers, murmurhash2, text, say and script, and the kit's io.
+use script::lines;
+use text::fault;
+use text::words;
 
 struct Row {
     seed: u64,
@@ -19,59 +13,21 @@ struct Row {
     b: u64,
     c: u64,
     hash: u64,
-    next: usize,
+    fault: u32,
 }
 
-fn is_digit(b: u8) -> bool {
-    (b'0' <= b) & (b <= b'9')
-}
-
-// The digit that a byte stands for; only the remainder modulo 10 counts, so that it needs no test.
-fn digit(b: u8) -> u64
-    ensures { λ r. ⌜ r < 10 ⌝ }
-{
-    (((b as u64) + 2) % 10) as u64
-}
-
-// One more digit, kept below 2^40: no row has a larger number.
-fn more(value: u64, d: u64) -> u64
-    requires { ⌜ d < 10 ⌝ }
-{
-    (value % 100000000000) * 10 + d
-}
-
-// The decimal number from a place, and the place behind the byte that ends it.
-fn number(text: &[u8], from: usize) -> Read {
-    let mut value: u64 = 0;
-    let mut at = from;
-    while at < text.len() {
-        if !is_digit(text[at]) {
-            return Read {
-                value,
-                next: at + 1,
-            };
-        }
-        value = more(value, digit(text[at]));
-        at += 1;
-    }
-    Read { value, next: at }
-}
-
-fn next_row(text: &[u8], from: usize) -> Row {
-    let seed = number(text, from);
-    let length = number(text, seed.next);
-    let a = number(text, length.next);
-    let b = number(text, a.next);
-    let c = number(text, b.next);
-    let hash = number(text, c.next);
+fn row_of(line: &[u8]) -> Row {
+    let seed = words::number_at(line, 0);
+    let hash = words::number_at(line, 5);
+    let g = words::first_numbers(line, 4);
     Row {
         seed: seed.value,
-        length: length.value,
-        a: a.value,
-        b: b.value,
-        c: c.value,
+        length: g.a,
+        a: g.b,
+        b: g.c,
+        c: g.d,
         hash: hash.value,
-        next: hash.next,
+        fault: fault::first(seed.fault, fault::first(g.fault, hash.fault)),
     }
 }
 
@@ -91,81 +47,82 @@ fn fill(key: &mut [u8], a: u64, b: u64, c: u64) {
     }
 }
 
-fn least(a: usize, b: usize) -> usize
-    ensures { λ r. ⌜ (r ≤ a) × (r ≤ b) ⌝ }
-{
-    if a < b {
-        return a;
-    }
-    b
-}
-
 // The hash of the row's key, made in the lent memory.
 fn hash_of(r: Row, key: &mut [u8]) -> u32 {
-    let n = least(r.length as usize, key.len());
-    let seed = (r.seed % 4294967296) as u32;
+    let n = text::least(r.length as usize, key.len());
     fill(&mut key[0..n], r.a, r.b, r.c);
-    murmurhash2::murmurhash2(&key[0..n], seed)
+    murmurhash2::murmurhash2(&key[0..n], words::low_32(r.seed))
 }
 
-fn say(text: &[u8]) {
-    io::write_all(STDOUT_FILENO, text);
+fn say_differs(length: u64, want: u64, got: u32) {
+    say::told(b"differs: length ", length);
+    say::told(b", wanted ", want);
+    say::number(b", got ", got as u64);
 }
 
-// 1 and a line where the row's hash differs, 0 where it doesn't.
-fn differs(r: Row, key: &mut [u8]) -> usize
-    ensures { λ d. ⌜ d ≤ 1 ⌝ }
-{
-    let want = r.hash;
-    let length = r.length;
-    let got = hash_of(r, key);
-    if want == (got as u64) {
-        return 0;
+// Whether a row can't be read or its hash differs; a line says so.
+fn differs(line: &[u8], key: &mut [u8]) -> bool {
+    let r = row_of(line);
+    if r.fault != 0 {
+        say::fault(r.fault);
+        return true;
     }
-    say(b"differs: length ");
-    io::print_decimal(STDOUT_FILENO, length);
-    say(b", wanted ");
-    io::print_decimal(STDOUT_FILENO, want);
-    say(b", got ");
-    io::print_decimal(STDOUT_FILENO, got as u64);
-    say(b"\n");
-    1
+    let got = hash_of(r, key);
+    if r.hash == (got as u64) {
+        return false;
+    }
+    say_differs(r.length, r.hash, got);
+    true
 }
 
 struct Tally {
-    rows: usize,
-    wrong: usize,
+    rows: u64,
+    wrong: u64,
 }
 
-// All rows of the text.
-fn check_rows(text: &[u8], key: &mut [u8]) -> Tally {
-    let mut at = 0;
-    let mut rows: usize = 0;
-    let mut wrong: usize = 0;
-    // No text has more rows than bytes, so the count of rows ends the loop.
-    while rows < text.len() {
-        if text.len() <= at {
-            return Tally { rows, wrong };
-        }
-        let r = next_row(text, at);
-        wrong += differs(r, key);
-        rows += 1;
-        at = r.next;
+// One more, as far as any run counts.
+fn one_more(n: u64) -> u64 {
+    if n < 1000000000 {
+        return n + 1;
     }
-    Tally { rows, wrong }
+    n
 }
 
-fn run(text: &[u8], key: &mut [u8]) {
-    let t = check_rows(text, key);
-    io::print_decimal(STDOUT_FILENO, t.rows as u64);
-    say(b" rows, ");
-    io::print_decimal(STDOUT_FILENO, t.wrong as u64);
-    say(b" differ\n");
+// A line: a row, or nothing.
+fn check_line(t: Tally, line: &[u8], key: &mut [u8]) -> Tally {
+    if line.len() == 0 {
+        return t;
+    }
+    let rows = one_more(t.rows);
+    if differs(line, key) {
+        return Tally {
+            rows,
+            wrong: one_more(t.wrong),
+        };
+    }
+    Tally {
+        rows,
+        wrong: t.wrong,
+    }
+}
+
+// All rows of standard input.
+fn check_rows(chunk: &mut [u8], line: &mut [u8], key: &mut [u8]) -> Tally {
+    let mut tally = Tally { rows: 0, wrong: 0 };
+    let mut lines = lines::all();
+    while 0 < lines.left {
+        lines = lines::next(lines, chunk, line);
+        tally = check_line(tally, lines::held(lines, line), key);
+    }
+    tally
 }
 
 fn main() {
-    let mut text = io::large_buffer();
-    let n = io::read_full(STDIN_FILENO, &mut text);
+    let mut chunk = io::large_buffer();
+    let mut line = io::large_buffer();
     let mut key = io::large_buffer();
-    run(&text[..n], &mut key);
+    let t = check_rows(&mut chunk, &mut line, &mut key);
+    say::told(b"", t.rows);
+    say::told(b" rows, ", t.wrong);
+    say::line(b" differ");
 }

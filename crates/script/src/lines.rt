@@ -1,35 +1,37 @@
 // Standard input, cut into lines.
 use libc::STDIN_FILENO;
-ghost use Prim.Native.Nat.{_≤_};
-ghost use lib.ListN.{length};
+ghost use Prim.Native.Nat.{_-_, _≤_};
 
 // What is known between two lines.
 pub struct Lines {
-    // what was read of the input and isn't taken yet: the chunk's bytes from `from` to `to`
-    pub from: usize,
-    pub to: usize,
+    // how many lines may still come, none behind the last. A proved loop over the lines has to end, and nothing says
+    // that the input does: they are counted down from a number that no run uses up
+    pub left: u64,
     // how much is held of the line, whether there was more of it than a line may have, and whether it has ended
     pub held: usize,
     pub long: bool,
     pub whole: bool,
-    // whether the input may go on behind the line
-    pub more: bool,
+    // what was read of the input and isn't taken yet: the chunk's bytes from `from` to `to`
+    pub from: usize,
+    pub to: usize,
 }
 
 // Before the first line.
-pub fn none() -> Lines {
+pub fn all() -> Lines {
     Lines {
-        from: 0,
-        to: 0,
+        left: u64::MAX,
         held: 0,
         long: false,
         whole: false,
-        more: true,
+        from: 0,
+        to: 0,
     }
 }
 
 // Holds a part of a line behind what is held of it, as far as a line may be long.
-fn hold(l: Lines, part: &[u8], line: &mut [u8]) -> Lines {
+fn hold(l: Lines, part: &[u8], line: &mut [u8]) -> Lines
+    ensures { λ r. ⌜ r .left ≤ l .left ⌝ }
+{
     let n = text::least(l.held, line.len());
     let k = text::least(part.len(), line.len() - n);
     let long = l.long;
@@ -41,7 +43,9 @@ fn hold(l: Lines, part: &[u8], line: &mut [u8]) -> Lines {
 }
 
 // Takes what the chunk has of the line.
-fn take(l: Lines, chunk: &[u8], line: &mut [u8]) -> Lines {
+fn take(l: Lines, chunk: &[u8], line: &mut [u8]) -> Lines
+    ensures { λ r. ⌜ r .left ≤ l .left ⌝ }
+{
     let from = text::least(l.from, chunk.len());
     let end = text::scan::find(chunk, from, b'\n');
     let mut next = hold(l, &chunk[from..end], line);
@@ -50,20 +54,35 @@ fn take(l: Lines, chunk: &[u8], line: &mut [u8]) -> Lines {
     next
 }
 
-// Reads on. Where nothing more comes, the line ends with the input.
-fn refill(l: Lines, chunk: &mut [u8]) -> Lines {
+// Where nothing more comes, the line ends with the input.
+fn ended(l: Lines) -> Lines
+    ensures { λ r. ⌜ r .left ≤ l .left ⌝ }
+{
+    let mut next = l;
+    next.left = 0;
+    next.whole = true;
+    next
+}
+
+// Reads on.
+fn refill(l: Lines, chunk: &mut [u8]) -> Lines
+    ensures { λ r. ⌜ r .left ≤ l .left ⌝ }
+{
     let got = libc::read(STDIN_FILENO, chunk);
     let n = io::count(got, chunk);
+    if n == 0 {
+        return ended(l);
+    }
     let mut next = l;
     next.from = 0;
     next.to = n;
-    next.more = 0 < n;
-    next.whole = n == 0;
     next
 }
 
 // Takes what the chunk has, or reads on where that is all taken.
-fn step(l: Lines, chunk: &mut [u8], line: &mut [u8]) -> Lines {
+fn step(l: Lines, chunk: &mut [u8], line: &mut [u8]) -> Lines
+    ensures { λ r. ⌜ r .left ≤ l .left ⌝ }
+{
     let to = text::least(l.to, chunk.len());
     if l.from < to {
         return take(l, &chunk[0..to], line);
@@ -71,18 +90,25 @@ fn step(l: Lines, chunk: &mut [u8], line: &mut [u8]) -> Lines {
     refill(l, chunk)
 }
 
-// No line yet, behind what was taken.
-fn begun(l: Lines) -> Lines {
+// No line yet, behind what was taken; one less to come.
+fn begun(l: Lines) -> Lines
+    ensures { λ r. ⌜ r .left ≤ l .left - 1 ⌝ }
+{
     let mut next = l;
     next.held = 0;
     next.long = false;
     next.whole = false;
+    if 0 < l.left {
+        next.left = l.left - 1;
+    }
     next
 }
 
-// The next line of standard input, at the front of `line`; a last one that lacks its end too. A proved loop has to end,
-// and nothing says that a line does: the loop counts its turns down from a number that no run uses up.
-pub fn next(l: Lines, chunk: &mut [u8], line: &mut [u8]) -> Lines {
+// The next line of standard input, at the front of `line`; a last one that lacks its end too. A line may be as endless
+// as the input: the turns too are counted down.
+pub fn next(l: Lines, chunk: &mut [u8], line: &mut [u8]) -> Lines
+    ensures { λ r. ⌜ r .left ≤ l .left - 1 ⌝ }
+{
     let mut now = begun(l);
     let mut turns = u64::MAX;
     while 0 < turns {
@@ -95,7 +121,7 @@ pub fn next(l: Lines, chunk: &mut [u8], line: &mut [u8]) -> Lines {
     now
 }
 
-// The bytes of a line that was read.
+// The bytes that are held of a line.
 pub fn held<'l>(l: Lines, line: &'l [u8]) -> &'l [u8] {
     let n = text::least(l.held, line.len());
     &line[0..n]

@@ -1,9 +1,7 @@
 // The lines, played on the lent areas.
 use crate::commands;
 use script::lines;
-use script::lines::Lines;
 use store::State;
-ghost use Prim.Native.Nat.{_<_};
 
 // What the testbench remembers between lines: the store's state, and how much of each area is lent.
 struct Bench {
@@ -112,42 +110,29 @@ fn play_lent(
     with_state(b, next)
 }
 
-// The line that was read.
+// A line of any kind.
 fn play_line(
     b: Bench,
-    l: Lines,
     line: &[u8],
+    is_long: bool,
     table: &mut [u32],
     keys: &mut [u8],
     lists: &mut [u8],
     name: &mut [u8],
     output: &mut [u8],
 ) -> Bench {
-    let n = text::least(l.held, line.len());
-    let k = commands::number_of(&line[0..n], l.long);
+    let k = commands::number_of(line, is_long);
     if k == 0 {
-        commands::say_fault(&line[0..n], l.long);
+        commands::say_fault(line, is_long);
         return b;
     }
     if k == 1 {
-        return lend(b, &line[0..n], table, keys, lists);
+        return lend(b, line, table, keys, lists);
     }
-    play_lent(b, k, &line[0..n], table, keys, lists, name, output)
+    play_lent(b, k, line, table, keys, lists, name, output)
 }
 
-// One turn less, or none where nothing more may come.
-fn turns_left(turns: u64, more: bool) -> u64
-    requires { ⌜ 0 < turns ⌝ }
-    ensures { λ r. ⌜ r < turns ⌝ }
-{
-    if more {
-        return turns - 1;
-    }
-    0
-}
-
-// Plays all of standard input. A proved loop has to end, and nothing says that the input does: the loop counts its
-// turns down from a number that no run uses up.
+// Plays all of standard input.
 fn play_input(
     chunk: &mut [u8],
     line: &mut [u8],
@@ -158,12 +143,19 @@ fn play_input(
     output: &mut [u8],
 ) {
     let mut bench = fresh();
-    let mut lines = lines::none();
-    let mut turns = u64::MAX;
-    while 0 < turns {
+    let mut lines = lines::all();
+    while 0 < lines.left {
         lines = lines::next(lines, chunk, line);
-        bench = play_line(bench, lines, line, table, keys, lists, name, output);
-        turns = turns_left(turns, lines.more);
+        bench = play_line(
+            bench,
+            lines::held(lines, line),
+            lines.long,
+            table,
+            keys,
+            lists,
+            name,
+            output,
+        );
     }
 }
 

@@ -13,29 +13,11 @@ Inv-loop key₀ a b c i₀ key i = (i ≤ length key) × (length key ≡ length 
 abbrev μ-loop : tie.MeasureT-loop
 μ-loop key₀ a b c i₀ key i = length key - i
 
-loop-holds : tie.Need-loop-holds Inv-loop μ-loop
-loop-holds c = search needs
-
-key-byte-requires : tie.Need-key-byte-requires Inv-loop μ-loop
-key-byte-requires c κs = search needs
-
-slice-write-key : tie.Need-slice-write-key Inv-loop μ-loop
-slice-write-key c = search needs
-
-add-i : tie.Need-add-i Inv-loop μ-loop
-add-i c = search needs
-
 loop-less : tie.Need-loop-less Inv-loop μ-loop
 loop-less c = simp length-set (omega arith)
 
 loop-again : tie.Need-loop-again Inv-loop μ-loop
 loop-again c = simp length-set (omega arith)
-
-same-length : tie.Need-same-length Inv-loop μ-loop
-same-length c = search needs
-
-returns : tie.Need-returns Inv-loop μ-loop
-returns c = search needs
 
 pub fill-spec : {M : Type 1} → statement M
 fill-spec =
@@ -43,11 +25,11 @@ fill-spec =
     (tie.spec
     Inv-loop
     μ-loop
-    loop-holds
-    key-byte-requires
-    slice-write-key
-    add-i
+    (λ c. search needs)
+    (λ c _. search needs)
+    (λ c. search needs)
+    (λ c. search needs)
     loop-less
     loop-again
-    same-length
-    returns)
+    (λ c. search needs)
+    (λ c. search needs))

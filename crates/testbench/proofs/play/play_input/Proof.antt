@@ -1,4 +1,4 @@
--- The invariant: every area keeps its length. The measure is the turns that are left. Assumes nothing.
+-- The invariant: every area keeps its length. The measure is the lines that may come. Assumes nothing.
 use mathlib.Core.Path.{_≡_}
 use lib.ListN.{length}
 use native.Mathlib.Omega.{arith}
@@ -7,32 +7,32 @@ use Rattle.testbench.proofs.play.play_input.Statement.{statement}
 use Rattle.testbench.proofs.play.play_input.Tie as tie
 
 abbrev Inv-loop : tie.InvT-loop
-Inv-loop chunk₀ line₀ table₀ keys₀ lists₀ name₀ output₀ _ _ _ chunk line table keys lists name output _ _ _ =
+Inv-loop chunk₀ line₀ table₀ keys₀ lists₀ name₀ output₀ _ _ chunk line table keys lists name output _ _ =
     (length chunk ≡ length chunk₀) × ((length line ≡ length line₀) × ((length table ≡ length table₀)
     × ((length keys ≡ length keys₀) × ((length lists ≡ length lists₀) × ((length name ≡ length name₀)
     × (length output ≡ length output₀))))))
 
 abbrev μ-loop : tie.MeasureT-loop
-μ-loop _ _ _ _ _ _ _ _ _ _ _ _ _ _ _ _ _ _ _ turns = turns
+μ-loop _ _ _ _ _ _ _ _ _ _ _ _ _ _ _ _ _ lines = lines .left
 
 -- from the end of a turn back to its two calls, and to its test
 abbrev played : tie.After-slice-known14 Inv-loop μ-loop → tie.After-play-line Inv-loop μ-loop
 played c = c .before .before .before .before .before .before .before .before .before .before
 
 abbrev heard : tie.After-play-line Inv-loop μ-loop → tie.After-next Inv-loop μ-loop
-heard c = c .before .before .before .before .before .before .before .before .before .before .before
+heard c = c .before .before .before .before .before .before .before .before .before .before .before .before
 
-abbrev begun : tie.After-next Inv-loop μ-loop → tie.In-loop Inv-loop μ-loop
+abbrev begun : tie.After-next Inv-loop μ-loop → tie.Then1 Inv-loop μ-loop
 begun c = c .before .before .before
 
-turns-left-requires : tie.Need-turns-left-requires Inv-loop μ-loop
-turns-left-requires c _ = omega (arith, begun (heard (played c)) .loop-test)
+loop-less : tie.Need-loop-less Inv-loop μ-loop
+loop-less c = let n = heard (played c) in omega (arith, n .next .ensures, begun n .if1)
 
 loop-again : tie.Need-loop-again Inv-loop μ-loop
 loop-again c =
-    let p = played (c .before) in
+    let p = played c in
     let n = heard p in
-    omega (arith, p .play-line .kept, n .next .kept, begun n .before .loop .inv)
+    omega (arith, p .play-line .kept, n .next .kept, begun n .before .before .loop .inv)
 
 pub play-input-spec : {M : Type 1} → statement M
 play-input-spec =
@@ -45,8 +45,8 @@ play-input-spec =
     (λ c. search needs)
     (λ c _. search needs)
     (λ c _. search needs)
-    turns-left-requires
-    (λ c. search needs)
+    (λ c _. search needs)
+    loop-less
     loop-again
     (λ c. search needs)
     (λ c. search needs)

@@ -1,5 +1,4 @@
--- The invariant: the place lies between the start and the end. The measure is what is left of the text. Assumes
--- nothing.
+-- The invariant: the place lies between the start and the end. The measure is what is left. Assumes nothing.
 use lib.ListN.{length}
 use Prim.Native.Nat.{_≤_, _-_, min}
 use borrow.Author.Needs.{needs}
