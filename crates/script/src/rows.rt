@@ -42,9 +42,20 @@ fn has_words(line: &[u8], written: &[u8]) -> bool {
     most - n <= tally(written, b'[')
 }
 
-// The number of the command that a line is, 0 where there is none of that name or the line has more or fewer words than
-// it takes.
-pub fn number_of(table: &[u8], line: &[u8]) -> u64 {
+// Lines that are no command and no fault: empty ones, and those that begin with `#`.
+fn is_passed_over(line: &[u8]) -> bool {
+    if line.len() == 0 {
+        return true;
+    }
+    line[0] == b'#'
+}
+
+// The number of the command that a line is; 0 where there is none of that name, the line has more or fewer words than
+// it takes, is longer than a line may be, or is passed over.
+pub fn number_of(table: &[u8], line: &[u8], is_long: bool) -> u64 {
+    if is_long | is_passed_over(line) {
+        return 0;
+    }
     let row = row_of(table, word(line, 0));
     if has_words(line, usage(row)) {
         return text::words::number_at(row, 0).value;
@@ -52,8 +63,14 @@ pub fn number_of(table: &[u8], line: &[u8]) -> u64 {
     0
 }
 
-// Why a line is no command of the table: its name isn't there, or its words are more or fewer.
-pub fn say_fault(table: &[u8], line: &[u8]) {
+// Why a line's number is 0; nothing where it is passed over.
+pub fn say_fault(table: &[u8], line: &[u8], is_long: bool) {
+    if is_passed_over(line) {
+        return;
+    }
+    if is_long {
+        return say::fault(text::fault::LINE_TOO_LONG);
+    }
     let row = row_of(table, word(line, 0));
     if row.len() == 0 {
         return say::fault(text::fault::UNKNOWN);

@@ -1,6 +1,5 @@
 // The commands: one table, from which their names, their numbers of words and their usage texts come.
 use script::rows;
-use text::fault;
 
 // A row a command: its number, then how it is written. The tens of the number say whose `play` has its arm: 1
 // bench_write, 2 bench_read, 3 bench_state, 4 bench_areas, 5 bench_lower; those below 10 are this program's.
@@ -30,31 +29,14 @@ const TABLE: [u8; 462] = *b"1 lend WORDS KEYBYTES LISTBYTES HH
 2 help
 ";
 
-// Lines that are no command: empty ones, and those that begin with `#`.
-fn is_passed_over(line: &[u8]) -> bool {
-    if line.len() == 0 {
-        return true;
-    }
-    line[0] == b'#'
-}
-
 // The number of the command that a line is, 0 where it can't be played.
 pub fn number_of(line: &[u8], is_long: bool) -> u64 {
-    if is_long | is_passed_over(line) {
-        return 0;
-    }
-    rows::number_of(&TABLE, line)
+    rows::number_of(&TABLE, line, is_long)
 }
 
-// Why a line can't be played; nothing where it is passed over.
+// Why a line can't be played.
 pub fn say_fault(line: &[u8], is_long: bool) {
-    if is_passed_over(line) {
-        return;
-    }
-    if is_long {
-        return say::fault(fault::LINE_TOO_LONG);
-    }
-    rows::say_fault(&TABLE, line)
+    rows::say_fault(&TABLE, line, is_long);
 }
 
 // `help`: how words are written, then the commands, one to a line.
