@@ -1,5 +1,6 @@
--- Document 01, "Refusal numbers": what an answer says in that paper's terms, and which numbers each call may give. Each
--- enum that a call answers with has a definition that gives its `Said` case by case, and the call's contract uses it.
+-- Document 01, "Refusal numbers", and 02's: what an answer says in those papers' terms, and which numbers each call may
+-- give. Each enum that a call answers with has a definition that gives its `Said` case by case, and the call's contract
+-- uses it.
 use Prim.Native.Nat.{ℕ}
 use mathlib.Core.Path.{_≡_, sym, _∙_}
 use mathlib.Core.Bool.{Bool, true, false, _||_}
@@ -31,6 +32,14 @@ pub data Word : Type 0 where
   noBucket : Word
   -- how many keys
   aCount : Word
+  -- a report's bytes; the lanes of a report's text and their bytes; one of them; none of that index
+  aReport : Word
+  someLanes : Word
+  aLane : Word
+  noSuchLane : Word
+  -- the bytes that hex stands for; no hex
+  someBytes : Word
+  noHex : Word
 
 -- RULES X7. An answer: its word and the values it tells; or a refusal: its number, and the value told beside it where
 -- the paper tells one
@@ -59,6 +68,9 @@ pub data Asked : Type 0 where
   findingBlock : Asked
   listingBuckets : Asked
   countingKeys : Asked
+  reporting : Asked
+  unreporting : Asked
+  unhexing : Asked
 
 -- RULES X3. The numbers of each call, in the order in which they are given.
 abbrev pub refusalNumbers : Asked → List ℕ
@@ -74,6 +86,9 @@ refusalNumbers readingLane = 2 ∷ 3 ∷ 4 ∷ 8 ∷ []
 refusalNumbers findingBlock = 2 ∷ 3 ∷ 4 ∷ []
 refusalNumbers listingBuckets = 2 ∷ 4 ∷ []
 refusalNumbers countingKeys = 2 ∷ []
+refusalNumbers reporting = 2 ∷ 4 ∷ 8 ∷ []
+refusalNumbers unreporting = 15 ∷ []
+refusalNumbers unhexing = 8 ∷ []
 
 -- RULES X7. Whether a number is listed.
 abbrev pub isAmong : ℕ → List ℕ → Bool

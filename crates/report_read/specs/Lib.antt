@@ -1,0 +1,9 @@
+pub mod Lines
+pub mod Places
+pub mod Counted
+pub mod Unhex
+pub mod Said
+pub mod Lane
+pub mod Pick
+pub mod Promises
+pub mod Cases

@@ -1,0 +1,6 @@
+pub mod Text
+pub mod Reader
+pub mod Reportable
+pub mod Values
+pub mod Promises
+pub mod Cases

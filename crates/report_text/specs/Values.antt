@@ -1,0 +1,36 @@
+-- RULES AA12, AA13. The values of a line as the code answers them.
+use Prim.Native.Nat.{ℕ, _%_}
+use mathlib.Core.Bool.{Bool, true, false, cond, _&&_}
+use mathlib.Core.Option.{Option, none, some}
+use mathlib.Core.List.{List, [], _∷_}
+use lib.Dec.{leb, eqb}
+use lib.ListN.{length, take}
+use Rattle.fastcmp.specs.Equal.{equalBytes}
+use Rattle.report_text.specs.declared.fields.Decimal.{Decimal}
+use Rattle.report_text.specs.declared.fields.Decimal.the-variants.{Number, NoNumber}
+use Rattle.report_text.specs.declared.fields.Hexed.{Hexed}
+use Rattle.report_text.specs.declared.fields.Hexed.the-variants.{Bytes, NoBytes}
+use Rattle.report_text.specs.Reader.{isHex}
+
+abbrev pub decimalOf : Option ℕ → Decimal
+decimalOf none = NoNumber
+decimalOf (some n) = Number n
+
+-- how many bytes hex stands for
+abbrev pub hexedOf : Option (List ℕ) → Hexed
+hexedOf none = NoBytes
+hexedOf (some bs) = Bytes (length bs)
+
+-- a line begins with a word
+unfoldable pub beginsWith : List ℕ → List ℕ → Bool
+unfolding equalBytes
+beginsWith word l = cond (leb (length word) (length l)) (equalBytes (take (length word) l) word) false
+
+unfoldable pub allHex : List ℕ → Bool
+allHex [] = true
+allHex (c ∷ cs) = cond (isHex c) (allHex cs) false
+
+-- lower-case hex, two digits a byte; proofs/Words.antt has that just this reads as bytes
+unfoldable pub hexText : List ℕ → Bool
+unfolding allHex
+hexText cs = cond (eqb (length cs % 2) 0) (allHex cs) false
