@@ -1,0 +1,4 @@
+-- The laws of this crate.
+pub mod Written
+pub mod Reporting
+pub mod Promises

@@ -1,0 +1,158 @@
+-- `report::write_lanes` meets its contract. The invariant, `Lanes`: some lanes are written, and the rest is still to be
+-- met. Assumes nothing.
+use Prim.Native.Nat.{ℕ, _+_, _-_, _≤_}
+use mathlib.Core.Path.{_≡_, sym, ap, _∙_, subst}
+use native.Mathlib.Omega.{arith}
+use lib.ListN.{length}
+use borrow.Author.Needs.{needs}
+use Rattle.limits.specs.Limits.{bucketLimit}
+use Rattle.store.specs.Look.{lent}
+use Rattle.store.proofs.Whole.{whole-facts, buckets-few}
+use Rattle.report_lanes.specs.Lanes.{gatherFrom}
+use Rattle.report_lanes.specs.Measure.{Small}
+use Rattle.report_lanes.proofs.Measuring.{not-lane, none-left, none-more}
+use Rattle.report.proofs.Written.{Lanes, lanes-start, lanes-length, lane-stands, lane-room, lanes-on, lanes-over}
+use Rattle.report.proofs.write_lanes.Statement.{statement}
+use Rattle.report.proofs.write_lanes.Tie as tie
+
+abbrev Inv-loop : tie.InvT-loop
+Inv-loop st table keys lists output₀ from left₀ index₀ p₀ output left index p = Lanes st
+    (lent table keys lists) from output₀ left index p output
+
+abbrev μ-loop : tie.MeasureT-loop
+μ-loop st table keys lists output₀ from left₀ index₀ p₀ output left index p = left
+
+output-long : (c : tie.Start Inv-loop μ-loop) → length (c .args .output .now) ≤ 18446744073709551615
+output-long c = omega arith
+
+loop-holds : tie.Need-loop-holds Inv-loop μ-loop
+loop-holds c =
+    let a = c .before .before .before .before .args in
+    let s = c .before .before .before .before in
+    lanes-start (a .st) (lent (a .table .now) (a .keys .now) (a .lists .now)) (a .from) (a .output .now) (s .pre .met)
+
+next-lane-requires : tie.Need-next-lane-requires Inv-loop μ-loop
+next-lane-requires c κs = c .before .before .before .before .before .before .pre .whole
+
+enum-known-r : tie.Need-enum-known-r Inv-loop μ-loop
+enum-known-r c = search needs
+
+same-length : tie.Need-same-length Inv-loop μ-loop
+same-length c = lanes-length (c .before .before .before .loop .inv)
+
+returns : tie.Need-returns Inv-loop μ-loop
+returns c =
+    let a = c .before .before .before .before .before .before .before .before .args in
+    let L = c .before .before .before .loop .inv in
+    lanes-over L (none-left (a .st) (lent (a .table .now) (a .keys .now) (a .lists .now))
+    (c .before .before .before .loop .left) (c .before .before .before .loop .index) _ (L .rest) (omega arith)
+    (sym (c .before .next-lane .ensures .0)) (not-lane _ (c .match .keys2)) (L .rest-is))
+
+lane-size-requires : tie.Need-lane-size-requires Inv-loop μ-loop
+lane-size-requires c κs =
+    let a = c .before .before .before .before .before .before .before .before .before .before .args in
+    let q = subst (Small (a .st .buckets)) (c .before .r .given .1)
+    (c .before .before .before .next-lane .ensures .1) in (q .1, q .2)
+
+write-lane-requires : tie.Need-write-lane-requires Inv-loop μ-loop
+write-lane-requires c κs =
+    let a = c .before .before .before .before .before .before .before .before .before .before .before .before .args in
+    let s = c .before .before .before .before .before in
+    let q = subst (Small (a .st .buckets)) (c .before .before .before .r .given .1) (s .next-lane .ensures .1) in
+    let L = s .before .before .loop .inv in
+    let S = lane-stands L (s .before .before .before .before .before .before .before .pre .whole) (omega arith) _ _ _ _
+    (sym (s .next-lane .ensures .0) ∙ c .before .before .before .r .given .1) in (
+      S .0,
+      (
+        S .1,
+        (
+          q .2,
+          omega (
+            arith,
+            lane-room L
+                (s .before .before .before .before .before .before .before .pre .whole) (omega arith) _ _ _ _
+                (sym (s .next-lane .ensures .0)
+                ∙ c .before .before .before .r .given .1),
+            s .before .before .before .before .before .before .before .pre .fits,
+            lanes-length L,
+          ),
+        ),
+      ),
+    )
+
+add-p : tie.Need-add-p Inv-loop μ-loop
+add-p c =
+    let s = c .before .before .before .before in
+    let L = s .before .before .before .before .before .before .loop .inv in
+    omega (
+      arith,
+      output-long (s .before .before .before .before .before .before .before .before .before .before
+          .before),
+      lane-room L (s .before .before .before .before .before .before .before .before .before .before .before
+          .pre .whole) (omega arith) _ _ _ _ (sym (s .before .before .before .before .next-lane .ensures .0)
+          ∙ s .before .before .r .given .1),
+      s .before .before .before .before .before .before .before .before .before .before .before .pre .fits,
+      s .lane-size .ensures .0,
+    )
+
+add-index : tie.Need-add-index Inv-loop μ-loop
+add-index c =
+    let a = c .before .before .before .before .before .before .before .before .before .before .before .before .before
+    .before .before .args in
+    let s = c .before .before .before .before .before .before in
+    let q = subst (Small (a .st .buckets)) (s .r .given .1) (s .before .before .next-lane .ensures .1) in
+    omega (
+      arith,
+      q .0,
+      buckets-few (a .st) _ _ _
+          (whole-facts (a .st) (length (a .table .now)) (length (a .keys .now)) (length (a .lists .now))
+          (s .before .before .before .before .before .before .before .before .before .pre .whole)),
+    )
+
+sub-left : tie.Need-sub-left Inv-loop μ-loop
+sub-left c = omega arith
+
+loop-less : tie.Need-loop-less Inv-loop μ-loop
+loop-less c = omega arith
+
+loop-again : tie.Need-loop-again Inv-loop μ-loop
+loop-again c =
+    let s = c .before .before .before .before in
+    lanes-on (s .before .before .before .before .before .before .loop .inv)
+    (s .before .before .before .before .before .before .before .before .before .before .before .pre .whole)
+    (omega arith) _ _ _ _ (sym (s .before .before .before .before .next-lane .ensures .0)
+    ∙ s .before .before .r .given .1) (c .before .before .write-lane .last .1 .1 .1 .1 .1 .1 .1 .0) _
+    (c .before .before .write-lane .ensures) (s .lane-size .ensures .0)
+
+same-length-2 : tie.Need-same-length-2 Inv-loop μ-loop
+same-length-2 c = lanes-length (c .before .loop .inv)
+
+returns-2 : tie.Need-returns-2 Inv-loop μ-loop
+returns-2 c =
+    let a = c .before .before .before .before .before .before .args in
+    let L = c .before .loop .inv in
+    let z : c .before .loop .left ≡ 0 = omega arith in
+    lanes-over L (none-more (a .st) (lent (a .table .now) (a .keys .now) (a .lists .now)) (c .before .loop .index)
+    (L .rest) (ap (λ (k : ℕ). gatherFrom (a .st) (lent (a .table .now) (a .keys .now) (a .lists .now)) k
+    (c .before .loop .index)) (sym z) ∙ L .rest-is))
+
+pub write-lanes-spec : {M : Type 1} → statement M
+write-lanes-spec =
+    tie.close
+    (tie.spec
+    Inv-loop
+    μ-loop
+    loop-holds
+    next-lane-requires
+    enum-known-r
+    same-length
+    returns
+    lane-size-requires
+    write-lane-requires
+    add-p
+    add-index
+    sub-left
+    loop-less
+    loop-again
+    same-length-2
+    returns-2)
