@@ -31,7 +31,7 @@ use Rattle.report.specs.Report.{Out, out, onGathered, reportOf}
 use Rattle.report_lanes.specs.Measure.{measuredOf}
 use Rattle.report.specs.Write.{haltedOf}
 use Rattle.report.specs.Write.{lanesOf, lanesMet}
-use Rattle.report.proofs.Written.{head-pieces}
+use Rattle.report.proofs.Written.{head-long}
 
 module _ (st : State) (m : Lent) (output : List ℕ) where
   pub report-2 : checked st m ≡ false → out (Refused 2 0) output ≡ reportOf st m output
@@ -71,10 +71,6 @@ module _ (st : State) (m : Lent) (output : List ℕ) where
           let q : lanesMet st m ≡ ls = ap lanesOf p in
           record { met = p ∙ ap gathered (sym q); many = rw q (cc); total = rw q (cc); text = rw q (cc) }
       go (halted n) p e = let z : _≡_ {A = ℕ} 0 1 = cc in absurd (omega arith)
-
-  head-long : (a b : ℕ) → length (headText a b) ≡ 22 + length (decimal a) + length (decimal b)
-  unfolding headText
-  head-long a b = simp length-append (omega arith)
 
   module _ (a b c : ℕ) (S : Sum a b c) where
     pub head-size : length (headText a b) ≡ 22 + length (decimal a) + length (decimal b)

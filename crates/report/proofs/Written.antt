@@ -21,7 +21,7 @@ use Rattle.store.specs.declared.Answer.{Answer}
 use Rattle.store.specs.Look.{Lent, checked, headerOf, headerSound, blocksSound, Read, reading, readAt}
 use Rattle.store.proofs.Found.{head-found, head-sound}
 use Rattle.report_text.specs.Text.{Lane as Text·Lane, newline, storeLine, termsWord, totalWord, headText, termWord}
-use Rattle.report_text.specs.Text.{lenWord, bytesWord, hex, decimal, laneText, lanesText}
+use Rattle.report_text.specs.Text.{lenWord, bytesWord, hex, decimal, line, laneText, lanesText}
 use Rattle.report_text.proofs.Values.{hex-length}
 use Rattle.shared_arena_hashmap.specs.Probe.{keyLength, keyAt, valuePlace}
 use Rattle.report_lanes.specs.declared.NextLane.the-variants.{Lane}
@@ -104,8 +104,8 @@ pub record Put (p : ℕ) (m o done : List ℕ) (q : ℕ) : Type 0 where
 pub put-first : (p : ℕ) (m o bs : List ℕ) (q : ℕ) → o ≡ overwrite p bs m → q ≡ p + length bs → Put p m o bs q
 put-first p m o bs q e f = record { output = e; place = f }
 
-pub put-next : {p : ℕ} {m o done : List ℕ} {q : ℕ} → Put p m o done q → (o′ bs : List ℕ) (r : ℕ) → o′ ≡ overwrite q bs o
-    → r ≡ q + length bs → Put p m o′ (done ++ bs) r
+pub put-next : {p : ℕ} {m o done : List ℕ} {q : ℕ} → Put p m o done q → (o′ bs : List ℕ) (r : ℕ)
+    → o′ ≡ overwrite q bs o → r ≡ q + length bs → Put p m o′ (done ++ bs) r
 put-next {p} {m} {o} {done} {q} P o′ bs r e f = record {
   output = e ∙ (λ i. overwrite (P .place i) bs (P .output i)) ∙ sym (overwrite-append p done bs m);
   place = omega (arith, P .place, length-append done bs);
@@ -114,24 +114,17 @@ put-next {p} {m} {o} {done} {q} P o′ bs r e f = record {
 pub put-length : {p : ℕ} {m o done : List ℕ} {q : ℕ} → Put p m o done q → length o ≡ length m
 put-length {p} {m} {o} {done} P = ap length (P .output) ∙ length-overwrite p done m
 
--- a lane's pieces make up its text
-left-nested : (t h l d b x z : List ℕ) → t ++ h ++ l ++ d ++ b ++ x ++ z ≡ t ++ (h ++ (l ++ (d ++ (b ++ (x ++ z)))))
-left-nested t h l d b x z = simp append-assoc
+-- a lane's three lines make up its text; the last of them in three pieces
+three : (a b w v n : List ℕ) → a ++ b ++ w ++ v ++ n ≡ a ++ (b ++ (w ++ (v ++ n)))
+three a b w v n = simp append-assoc
 
-line-nested : (t h n l d b x : List ℕ) → (t ++ (h ++ n)) ++ ((l ++ (d ++ n)) ++ (b ++ (x ++ n)))
-    ≡ t ++ (h ++ (n ++ (l ++ (d ++ (n ++ (b ++ (x ++ n)))))))
-line-nested t h n l d b x = simp append-assoc
-
-pub lane-pieces : (a : Text·Lane) (hs ds bs : List ℕ) → hs ≡ hex (a .name) → ds ≡ decimal (length (a .bytes)) → bs
-    ≡ hex (a .bytes)
-    → termWord ++ hs ++ (newline ∷ lenWord) ++ ds ++ (newline ∷ bytesWord) ++ bs ++ (newline ∷ []) ≡ laneText a
+pub lane-lines : (a : Text·Lane) (k bs : List ℕ) (n : ℕ) → k ≡ a .name → n ≡ length (a .bytes) → bs ≡ a .bytes
+    → line termWord (hex k) ++ line lenWord (decimal n) ++ bytesWord ++ hex bs ++ (newline ∷ []) ≡ laneText a
 unfolding laneText
-lane-pieces a hs ds bs e f g =
-    (λ i. termWord ++ e i ++ (newline ∷ lenWord) ++ f i ++ (newline ∷ bytesWord) ++ g i ++ (newline ∷ []))
-    ∙ left-nested termWord (hex (a .name)) (newline ∷ lenWord) (decimal (length (a .bytes))) (newline ∷ bytesWord)
-    (hex (a .bytes)) (newline ∷ [])
-    ∙ sym (line-nested termWord (hex (a .name)) (newline ∷ []) lenWord (decimal (length (a .bytes))) bytesWord
-    (hex (a .bytes)))
+lane-lines a k bs n e f g =
+    (λ i. line termWord (hex (e i)) ++ line lenWord (decimal (f i)) ++ bytesWord ++ hex (g i) ++ (newline ∷ []))
+    ∙ three (line termWord (hex (a .name))) (line lenWord (decimal (length (a .bytes)))) bytesWord (hex (a .bytes))
+    (newline ∷ [])
 
 -- ---- its name and its bytes
 
@@ -145,6 +138,11 @@ pub lane-key : (m : Lent) (at name : ℕ) → keyLength (m .keys) at ≡ name
 unfolding laneAt keyAt readSpan
 lane-key m at name e = let z : at + 2 + name - (at + 2) ≡ keyLength (m .keys) at = omega arith in
     ap (λ (k : ℕ). take k (drop (at + 2) (m .keys))) z
+
+-- the part of the key pages that it is
+pub key-size : (keys : List ℕ) (at name : ℕ) → at + 2 + name ≤ length keys
+    → length (take (at + 2 + name - (at + 2)) (drop (at + 2) keys)) ≡ name
+key-size keys at name h = simp (length-take, length-drop) (omega arith)
 
 pub lane-own : (m : Lent) (at : ℕ) → laneBytes (m .lists) (headerOf (m .keys) at) ≡ laneAt m at .bytes
 unfolding laneAt
@@ -233,9 +231,9 @@ module _ {st : State} {m : Lent} {from : ℕ} {before : List ℕ} {left index p 
         size-is,
       )
 
-  pub lanes-on : (o′ : List ℕ) (size : ℕ) → o′ ≡ overwrite p (laneText (laneAt m at)) o → size ≡ laneSize name n
-      → Lanes st m from before (left - 1) (j + 1) (p + size) o′
-  lanes-on o′ size f g = record {
+  pub lanes-on : (o′ : List ℕ) (q : ℕ) → o′ ≡ overwrite p (laneText (laneAt m at)) o → q ≡ p + laneSize name n
+      → Lanes st m from before (left - 1) (j + 1) q o′
+  lanes-on o′ q f g = record {
     done = L .done ++ (laneAt m at ∷ []);
     rest = next-ones .0;
     all-are = L .all-are ∙ ap (λ (ks : List Text·Lane). L .done ++ ks) (next-ones .2)
@@ -265,19 +263,14 @@ lanes-over {st} {m} {from} {before} L e =
           ∙ ap (λ (ls : List Text·Lane). from + length (lanesText ls)) q,
     )
 
--- ---- the head's pieces make up its text
+-- ---- the head's lines make up its text
 
-head-left : (a d b e z : List ℕ) → a ++ d ++ b ++ e ++ z ≡ a ++ (d ++ (b ++ (e ++ z)))
-head-left a d b e z = simp append-assoc
-
-head-lines : (s n t d u e : List ℕ) → (s ++ n) ++ ((t ++ (d ++ n)) ++ (u ++ (e ++ n)))
-    ≡ s ++ (n ++ (t ++ (d ++ (n ++ (u ++ (e ++ n))))))
-head-lines s n t d u e = simp append-assoc
-
-pub head-pieces : (terms total : ℕ)
-    → (storeLine ++ (newline ∷ termsWord)) ++ decimal terms ++ (newline ∷ totalWord) ++ decimal total ++ (newline ∷ [])
-    ≡ headText terms total
+pub head-lines : (terms total : ℕ)
+    → line storeLine [] ++ line termsWord (decimal terms) ++ line totalWord (decimal total) ≡ headText terms total
 unfolding headText
-head-pieces terms total =
-    head-left (storeLine ++ (newline ∷ termsWord)) (decimal terms) (newline ∷ totalWord) (decimal total) (newline ∷ [])
-    ∙ sym (head-lines storeLine (newline ∷ []) termsWord (decimal terms) totalWord (decimal total))
+head-lines terms total =
+    append-assoc (line storeLine []) (line termsWord (decimal terms)) (line totalWord (decimal total))
+
+pub head-long : (a b : ℕ) → length (headText a b) ≡ 22 + length (decimal a) + length (decimal b)
+unfolding headText
+head-long a b = simp length-append (omega arith)

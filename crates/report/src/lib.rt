@@ -49,7 +49,7 @@ fn write_bytes(
     report_put::spread(&mut output[p..end], n);
 }
 
-// A lane's text.
+// A lane's text; answers where it ends.
 fn write_lane(
     st: State,
     table: &[u32],
@@ -60,29 +60,23 @@ fn write_lane(
     n: usize,
     output: &mut [u8],
     p: usize,
-)
-    requires { ⌜ Standing st (lent (now table) (now keys) (now lists)) at n
-        × ((keyLength (now keys) at ≡ name) × ((n ≤ 4587094008) × (p + laneSize name n ≤ length (now output)))) ⌝ }
-    ensures { λ _. ⌜ now (output .exit)
+) -> usize
+    requires { ⌜ Standing st (lent (now table) (now keys) (now lists)) at n × ((keyLength (now keys) at ≡ name)
+        × ((n ≤ 4587094008) × (p + laneSize name n ≤ length (now output)))) ⌝ }
+    ensures { λ r. ⌜ (now (output .exit)
         ≡ overwrite p (laneText (laneAt (lent (now (table .entry)) (now (keys .entry)) (now (lists .entry))) at))
-        (now (output .entry)) ⌝ }
+        (now (output .entry))) × (r ≡ p + laneSize name n) ⌝ }
 {
     let from = (at as usize) + 2;
     let to = from + name;
-    fastcpy::copy_in(output, p, b"term=");
-    let a = p + 5;
-    report_put::put_hex(output, a, &keys[from..to]);
-    let b = a + 2 * name;
-    fastcpy::copy_in(output, b, b"\nlen=");
-    let d = b + 5;
-    let k = report_put::digit_count(n as u64);
-    report_put::put_decimal(output, d, n as u64);
-    let e = d + k;
-    fastcpy::copy_in(output, e, b"\nbytes=");
-    let f = e + 7;
-    write_bytes(st, table, keys, lists, at, n, output, f);
-    let g = f + 2 * n;
-    fastcpy::copy_in(output, g, b"\n");
+    let a = report_put::put_hex_line(output, p, b"term=", &keys[from..to]);
+    let b = report_put::put_number_line(output, a, b"len=", n as u64);
+    fastcpy::copy_in(output, b, b"bytes=");
+    let d = b + 6;
+    write_bytes(st, table, keys, lists, at, n, output, d);
+    let e = d + 2 * n;
+    output[e] = 10;
+    e + 1
 }
 
 // All lanes' text from a place on; answers where it ends.
@@ -108,8 +102,7 @@ fn write_lanes(
         let NextLane::Lane(i, at, name, n) = r else {
             return p;
         };
-        let size = report_lanes::lane_size(name, n);
-        write_lane(
+        p = write_lane(
             st,
             table,
             keys,
@@ -120,7 +113,6 @@ fn write_lanes(
             output,
             p,
         );
-        p += size as usize;
         index = i + 1;
         left -= 1;
     }
@@ -129,22 +121,13 @@ fn write_lanes(
 
 // The lines before the first lane; answers where they end.
 fn write_head(output: &mut [u8], lanes: u64, bytes: u64) -> usize
-    requires { ⌜ (lanes < 10 ^ 18) × ((bytes < 10 ^ 18)
-        × (22 + length (decimal lanes) + length (decimal bytes) ≤ length (now output))) ⌝ }
+    requires { ⌜ (lanes < 10 ^ 18) × ((bytes < 10 ^ 18) × (length (headText lanes bytes) ≤ length (now output))) ⌝ }
     ensures { λ r. ⌜ (now (output .exit) ≡ overwrite 0 (headText lanes bytes) (now (output .entry)))
         × (r ≡ length (headText lanes bytes)) ⌝ }
 {
-    fastcpy::copy_in(output, 0, b"store=1\nterms=");
-    let k = report_put::digit_count(lanes);
-    report_put::put_decimal(output, 14, lanes);
-    let b = 14 + k;
-    fastcpy::copy_in(output, b, b"\ntotal=");
-    let d = b + 7;
-    let j = report_put::digit_count(bytes);
-    report_put::put_decimal(output, d, bytes);
-    let e = d + j;
-    fastcpy::copy_in(output, e, b"\n");
-    e + 1
+    fastcpy::copy_in(output, 0, b"store=1\n");
+    let a = report_put::put_number_line(output, 8, b"terms=", lanes);
+    report_put::put_number_line(output, a, b"total=", bytes)
 }
 
 // The answer where a lane is damaged.

@@ -403,3 +403,12 @@ pub few-over : (x : NextLane) (a b c : ℕ) → Few (Sums a b c) → Few (overOf
 few-over (Lane j at name n) a b c f = f
 few-over NoLane a b c f = f
 few-over (Halt k) a b c f = tt
+
+-- a lane that is no damage has no more bytes than a header can tell
+pub sound-lane-most : (st : State) (m : Lent) (at : ℕ) → checked st m ≡ true → blocksSound st m at ≡ true
+    → length (laneAt m at .bytes) ≤ 4587094008
+unfolding blocksSound
+sound-lane-most st m at c q =
+    let h = headerOf (m .keys) at in
+    let p = both (headerSound (m .keys) at) (goodBlocks (st .«list_arena») (m .lists) (h .head) (blockCount h)) q in
+    omega (arith, lane-bytes st m at c q, length-most h (sound-at (m .keys) at (p .0)))

@@ -14,7 +14,7 @@ use borrow.Author.Tests.{lt-ltb, le-ltb}
 use Rattle.spans.specs.Span.{readSpan, overwrite}
 use Rattle.spans.proofs.Laws.{length-overwrite, read-after, span-at, store-one, store-next, overwrite-append}
 use Rattle.spans.proofs.Laws.{overwrite-swap, overwrite-none, overwrite-all}
-use Rattle.report_text.specs.Text.{hexDigit, hex, digits, digitLimit, decimal}
+use Rattle.report_text.specs.Text.{newline, hexDigit, hex, digits, digitLimit, decimal, line}
 use Rattle.report_text.proofs.Values.{digits-last, digits-on, reach, hex-length}
 
 -- ---- hex
@@ -254,3 +254,18 @@ writing-ends {n} {at} {m} {o} {rest} {p} W h =
 
 pub decimal-some : (n : ℕ) → n < 10 ^ 18 → 1 ≤ length (decimal n)
 decimal-some n h = rest-long (rest-starts n h)
+
+-- ---- whole lines
+
+pub line-long : (w v : List ℕ) → length (line w v) ≡ length w + length v + 1
+line-long w v = omega (arith, length-append w (v ++ (newline ∷ [])), length-append v (newline ∷ []))
+
+-- a word, a value behind it, a newline behind that
+pub line-put : (at d e : ℕ) (w v m o1 o2 : List ℕ) → o1 ≡ overwrite at w m → d ≡ at + length w → o2 ≡ overwrite d v o1
+    → e ≡ d + length v → set o2 e newline ≡ overwrite at (line w v) m
+line-put at d e w v m o1 o2 p q r s =
+    let x : o2 ≡ overwrite at (w ++ v) m =
+    r ∙ (λ i. overwrite (q i) v (p i)) ∙ sym (overwrite-append at w v m) in
+    ap (λ (o : List ℕ). set o e newline) x
+    ∙ store-next at (w ++ v) m newline e (omega (arith, length-append w v))
+    ∙ ap (λ (b : List ℕ). overwrite at b m) (append-assoc w v (newline ∷ []))

@@ -1,13 +1,14 @@
 // What the report's writer writes, piece by piece: hex and decimals into a lent output (document 02, One).
 //
 // Each promises that the output is overwritten from a place with just those bytes, in the words of report_text's
-// definitions, and nothing else. It uses spans and report_text. Its functions have `requires`: they are inner functions
+// definitions, and nothing else. It uses spans, fastcpy and report_text. Its functions have `requires`: they are inner
+// functions
 // of the writer, which has measured the text and knows that it fits.
 ghost use mathlib.Core.Path.{_≡_};
 ghost use Prim.Native.Nat.{_+_, _*_, _%_, _^_, _≤_, _<_};
 ghost use lib.ListN.{length, drop};
 ghost use Rattle.spans.specs.Span.{overwrite};
-ghost use Rattle.report_text.specs.Text.{hexDigit, hex, decimal};
+ghost use Rattle.report_text.specs.Text.{hexDigit, hex, decimal, line};
 
 // A hex digit.
 fn hex_digit(n: u8) -> u8
@@ -90,4 +91,36 @@ pub fn put_decimal(output: &mut [u8], at: usize, n: u64)
         p -= 1;
     }
     output[p] = digit(rest);
+}
+
+// ---- whole lines
+
+// A word, a decimal, a newline. Answers where the next line begins.
+pub fn put_number_line(output: &mut [u8], at: usize, word: &[u8], n: u64) -> usize
+    requires { ⌜ (n < 10 ^ 18) × (at + length (line (now word) (decimal n)) ≤ length (now output)) ⌝ }
+    ensures { λ r. ⌜ (now (output .exit) ≡ overwrite at (line (now (word .entry)) (decimal n)) (now (output .entry)))
+        × (r ≡ at + length (line (now (word .entry)) (decimal n))) ⌝ }
+{
+    let from = at + word.len();
+    fastcpy::copy_in(output, at, word);
+    let k = digit_count(n);
+    put_decimal(output, from, n);
+    let end = from + k;
+    output[end] = 10;
+    end + 1
+}
+
+// A word, bytes as hex, a newline. Answers where the next line begins.
+pub fn put_hex_line(output: &mut [u8], at: usize, word: &[u8], src: &[u8]) -> usize
+    requires { ⌜ at + length (line (now word) (hex (now src))) ≤ length (now output) ⌝ }
+    ensures { λ r. ⌜ (now (output .exit)
+        ≡ overwrite at (line (now (word .entry)) (hex (now (src .entry)))) (now (output .entry)))
+        × (r ≡ at + length (line (now (word .entry)) (hex (now (src .entry))))) ⌝ }
+{
+    let from = at + word.len();
+    fastcpy::copy_in(output, at, word);
+    put_hex(output, from, src);
+    let end = from + 2 * src.len();
+    output[end] = 10;
+    end + 1
 }

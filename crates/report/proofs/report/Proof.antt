@@ -14,6 +14,7 @@ use Rattle.report.specs.Report.{out}
 use Rattle.report_lanes.specs.Measure.{Few}
 use Rattle.report.specs.Write.{lanesMet}
 use Rattle.report_lanes.proofs.Measuring.{decimal-most}
+use Rattle.report.proofs.Written.{head-long}
 use Rattle.report.proofs.Reporting.{report-2, report-halted, sums, head-size, report-8, report-done, told}
 use borrow.Author.Needs.{needs}
 use Rattle.report.proofs.report.Statement.{statement}
@@ -114,8 +115,19 @@ write-head-requires : tie.Need-write-head-requires
 write-head-requires c κs =
     let d = c .before .before in
     let s = d .before .before .before in
-    let q = subst Few (s .m .given .1) (s .before .before .measure .ensures .1) in
-    (q .0, (q .1, omega (arith, d .before .digit-count .ensures, d .digit-count2 .ensures)))
+    let q = subst Few (s .m .given .1) (s .before .before .measure .ensures .1) in (
+      q .0,
+      (
+        q .1,
+        omega (
+          arith,
+          head-long (s .m .given .0 .0)
+              (s .m .given .0 .1 .0),
+          d .before .digit-count .ensures,
+          d .digit-count2 .ensures,
+        ),
+      ),
+    )
 
 write-lanes-requires : tie.Need-write-lanes-requires
 write-lanes-requires c κs =

@@ -22,9 +22,6 @@ Inv-loop st table keys lists output₀ from left₀ index₀ p₀ output left in
 abbrev μ-loop : tie.MeasureT-loop
 μ-loop st table keys lists output₀ from left₀ index₀ p₀ output left index p = left
 
-output-long : (c : tie.Start Inv-loop μ-loop) → length (c .args .output .now) ≤ 18446744073709551615
-output-long c = omega arith
-
 loop-holds : tie.Need-loop-holds Inv-loop μ-loop
 loop-holds c =
     let a = c .before .before .before .before .args in
@@ -48,66 +45,29 @@ returns c =
     (c .before .before .before .loop .left) (c .before .before .before .loop .index) _ (L .rest) (omega arith)
     (sym (c .before .next-lane .ensures .0)) (not-lane _ (c .match .keys2)) (L .rest-is))
 
-lane-size-requires : tie.Need-lane-size-requires Inv-loop μ-loop
-lane-size-requires c κs =
-    let a = c .before .before .before .before .before .before .before .before .before .before .args in
-    let q = subst (Small (a .st .buckets)) (c .before .r .given .1)
-    (c .before .before .before .next-lane .ensures .1) in (q .1, q .2)
-
 write-lane-requires : tie.Need-write-lane-requires Inv-loop μ-loop
 write-lane-requires c κs =
-    let a = c .before .before .before .before .before .before .before .before .before .before .before .before .args in
-    let s = c .before .before .before .before .before in
-    let q = subst (Small (a .st .buckets)) (c .before .before .before .r .given .1) (s .next-lane .ensures .1) in
-    let L = s .before .before .loop .inv in
-    let S = lane-stands L (s .before .before .before .before .before .before .before .pre .whole) (omega arith) _ _ _ _
-    (sym (s .next-lane .ensures .0) ∙ c .before .before .before .r .given .1) in (
-      S .0,
-      (
-        S .1,
-        (
-          q .2,
-          omega (
-            arith,
-            lane-room L
-                (s .before .before .before .before .before .before .before .pre .whole) (omega arith) _ _ _ _
-                (sym (s .next-lane .ensures .0)
-                ∙ c .before .before .before .r .given .1),
-            s .before .before .before .before .before .before .before .pre .fits,
-            lanes-length L,
-          ),
-        ),
-      ),
-    )
-
-add-p : tie.Need-add-p Inv-loop μ-loop
-add-p c =
-    let s = c .before .before .before .before in
-    let L = s .before .before .before .before .before .before .loop .inv in
-    omega (
-      arith,
-      output-long (s .before .before .before .before .before .before .before .before .before .before
-          .before),
-      lane-room L (s .before .before .before .before .before .before .before .before .before .before .before
-          .pre .whole) (omega arith) _ _ _ _ (sym (s .before .before .before .before .next-lane .ensures .0)
-          ∙ s .before .before .r .given .1),
-      s .before .before .before .before .before .before .before .before .before .before .before .pre .fits,
-      s .lane-size .ensures .0,
-    )
+    let r = c .before .before in
+    let n = r .before .before in
+    let l = n .before .before in
+    let s = l .before .before .before .before .before in
+    let q = subst (Small (s .args .st .buckets)) (r .r .given .1) (n .next-lane .ensures .1) in
+    let e = sym (n .next-lane .ensures .0) ∙ r .r .given .1 in
+    let S = lane-stands (l .loop .inv) (s .pre .whole) (omega arith) _ _ _ _ e in
+    let room = lane-room (l .loop .inv) (s .pre .whole) (omega arith) _ _ _ _ e in
+    (S .0, (S .1, (q .2, omega (arith, room, s .pre .fits, lanes-length (l .loop .inv)))))
 
 add-index : tie.Need-add-index Inv-loop μ-loop
 add-index c =
-    let a = c .before .before .before .before .before .before .before .before .before .before .before .before .before
-    .before .before .args in
-    let s = c .before .before .before .before .before .before in
-    let q = subst (Small (a .st .buckets)) (s .r .given .1) (s .before .before .next-lane .ensures .1) in
-    omega (
-      arith,
-      q .0,
-      buckets-few (a .st) _ _ _
-          (whole-facts (a .st) (length (a .table .now)) (length (a .keys .now)) (length (a .lists .now))
-          (s .before .before .before .before .before .before .before .before .before .pre .whole)),
-    )
+    let u = c .before .before .before .before .before in
+    let r = u in
+    let n = r .before .before in
+    let s = n .before .before .before .before .before .before .before in
+    let a = s .args in
+    let q = subst (Small (a .st .buckets)) (r .r .given .1) (n .next-lane .ensures .1) in
+    let W =
+    whole-facts (a .st) (length (a .table .now)) (length (a .keys .now)) (length (a .lists .now)) (s .pre .whole) in
+    omega (arith, q .0, buckets-few (a .st) _ _ _ W)
 
 sub-left : tie.Need-sub-left Inv-loop μ-loop
 sub-left c = omega arith
@@ -117,12 +77,13 @@ loop-less c = omega arith
 
 loop-again : tie.Need-loop-again Inv-loop μ-loop
 loop-again c =
-    let s = c .before .before .before .before in
-    lanes-on (s .before .before .before .before .before .before .loop .inv)
-    (s .before .before .before .before .before .before .before .before .before .before .before .pre .whole)
-    (omega arith) _ _ _ _ (sym (s .before .before .before .before .next-lane .ensures .0)
-    ∙ s .before .before .r .given .1) (c .before .before .write-lane .last .1 .1 .1 .1 .1 .1 .1 .0) _
-    (c .before .before .write-lane .ensures) (s .lane-size .ensures .0)
+    let w = c .before .before in
+    let r = w .before .before .before in
+    let n = r .before .before in
+    let l = n .before .before in
+    let s = l .before .before .before .before .before in
+    lanes-on (l .loop .inv) (s .pre .whole) (omega arith) _ _ _ _ (sym (n .next-lane .ensures .0) ∙ r .r .given .1)
+    (w .write-lane .last .1 .1 .1 .1 .1 .1 .1 .0) _ (w .write-lane .ensures .0) (w .write-lane .ensures .1)
 
 same-length-2 : tie.Need-same-length-2 Inv-loop μ-loop
 same-length-2 c = lanes-length (c .before .loop .inv)
@@ -147,9 +108,7 @@ write-lanes-spec =
     enum-known-r
     same-length
     returns
-    lane-size-requires
     write-lane-requires
-    add-p
     add-index
     sub-left
     loop-less
