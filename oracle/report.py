@@ -4,6 +4,9 @@
   report.py check FILE      ok, bad N or long, as the program report_check says it
   report.py cases OUT_STDIN OUT_STDOUT
                             the cases that the gate feeds the program report_cases, and this reader's answers
+  report.py sample OUT_STDOUT
+                            what the program report_sample prints: document 02's two reports, read back
+  report.py full OUT        a good report of exactly 65,536 bytes, which the gate feeds the program report_check
   report.py random N SEED   N random texts to standard output in the form of the cases, and their answers to standard error
 
 A case is its length in decimal, a newline, and that many bytes.
@@ -180,6 +183,21 @@ def cases():
     yield full + b"\n"
 
 
+def sample():
+    """two stores: an empty one; one with lane A and the bytes 1, 2, 3, asked for also with an output of 10 bytes"""
+    for lanes in ([], [(b"A", b"\x01\x02\x03")]):
+        text = text_of(lanes)
+        read, line = lanes_of(text)
+        yield text.decode()
+        yield "lanes %d %d\n" % (len(read), sum(len(b) for _, b in read)) if read is not None else "refused 15 %d\n" % line
+        if not read:
+            yield "no such lane\n"
+        else:
+            name, data = read[0]
+            yield "lane %s %s\nbytes %d %d\n" % (name.hex(), data.hex(), len(data), data[0])
+            yield "refused 8 %d\n" % len(text)
+
+
 def random_text(rng):
     lanes = []
     for _ in range(rng.choice((0, 1, 2, 3, 5))):
@@ -215,6 +233,12 @@ def main(words):
     elif len(words) == 3 and words[0] == "cases":
         with open(words[1], "wb") as stdin, open(words[2], "wb") as stdout:
             write(cases(), stdin, stdout)
+    elif len(words) == 2 and words[0] == "sample":
+        with open(words[1], "w") as stdout:
+            stdout.writelines(sample())
+    elif len(words) == 2 and words[0] == "full":
+        with open(words[1], "wb") as stdin:
+            stdin.write(padded(LIMIT))
     elif len(words) == 3 and words[0] == "random":
         rng = random.Random(int(words[2]))
         write((random_text(rng) for _ in range(int(words[1]))), sys.stdout.buffer, sys.stderr.buffer)

@@ -28,7 +28,7 @@ fn more(value: u64, d: u64) -> u64
 fn next_size() -> Size {
     let mut one = [0u8; 1];
     let mut bytes: u64 = 0;
-    let mut left = 20;
+    let mut left: u64 = 20;
     while 0 < left {
         let got = io::read_full(STDIN_FILENO, &mut one);
         if got == 0 {
@@ -69,12 +69,12 @@ fn one_text(text: &mut [u8], n: u64) {
         return;
     }
     let k = n as usize;
-    let got = io::read_full(STDIN_FILENO, &mut text[..k]);
+    let got = io::read_full(STDIN_FILENO, &mut text[0..k]);
     if got < k {
         report_say::say(b"cut short\n");
         return;
     }
-    report_say::tell(&text[..k]);
+    report_say::tell(&text[0..k]);
 }
 
 // At most so many texts.
