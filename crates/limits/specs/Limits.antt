@@ -60,6 +60,10 @@ linkSize = 4
 abbrev pub vintLimit : ℕ
 vintLimit = 5
 
+-- RULES AA3. Digits of a report's longest decimal.
+abbrev pub digitLimit : ℕ
+digitLimit = 18
+
 -- ---- how the numbers fit together
 
 -- RULES A9. No address of an arena is null, nor on null's page.

@@ -37,3 +37,6 @@ pub const LINK: usize = 4;
 
 // Bytes of the longest vint.
 pub const VINT_LIMIT: usize = 5;
+
+// Digits of a report's longest decimal.
+pub const DIGIT_LIMIT: usize = 18;

@@ -1,6 +1,5 @@
--- RULES AA21. A row a case: what the writer says of a store of 18 words and twice 64 bytes, where all memory held 7s:
--- empty,
--- then with lane A and the bytes 1, 2, 3. The texts are document 02's.
+-- RULES AA15. A row a case: what the writer says of a store of 18 words and twice 64 bytes, where all memory held 7s:
+-- empty, then with lane A and the bytes 1, 2, 3. The texts are document 02's.
 use Prim.Native.Nat.{ℕ}
 use mathlib.Core.Path.{_≡_, refl}
 use mathlib.Core.List.{List, [], _∷_, _++_}
@@ -44,6 +43,7 @@ broken = lent (lent-one .table) (overwrite 0 (255 ∷ 255 ∷ []) (lent-one .key
 abbrev headless : Lent
 headless = lent (lent-one .table) (overwrite 18 (1 ∷ []) (lent-one .keys)) (lent-one .lists)
 
+-- RULES AA15.
 pub said-reported : (saidReported (reportOf start lent-at-first (sevens 32) .answer) ≡ answered aReport (30 ∷ []))
     × (reportOf start lent-at-first (sevens 32) .output ≡ empty-text ++ (7 ∷ 7 ∷ []))
     × (saidReported (reportOf one lent-one (sevens 58) .answer) ≡ answered aReport (57 ∷ []))

@@ -1,4 +1,4 @@
--- RULES AA4, AA5. What the writer promises beyond its own equation. One record; proofs/Promises.antt has its value.
+-- RULES AA5. What the writer promises beyond its own equation. One record; proofs/Promises.antt has its value.
 use Prim.Native.Nat.{ℕ, _≤_}
 use mathlib.Core.Path.{_≡_}
 use mathlib.Core.List.{List}
@@ -8,6 +8,7 @@ use Rattle.store.specs.Look.{Lent}
 use Rattle.report.specs.declared.Reported.the-variants.{Written, Refused}
 use Rattle.report.specs.Report.{Out, out, reportOf}
 
+-- RULES AA5.
 pub record Promises : Type 0 where
   -- a refusal leaves the output as it was
   pub report-refused : (st : State) (m : Lent) (output : List ℕ) (n told : ℕ)

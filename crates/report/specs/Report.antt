@@ -1,4 +1,4 @@
--- RULES AA4, AA5. The writer: all lanes are met (4) before the output's length matters (8), and that before a byte is
+-- RULES AA5. The writer: all lanes are met (4) before the output's length matters (8), and that before a byte is
 -- written.
 use Prim.Native.Nat.{ℕ}
 use mathlib.Core.Bool.{cond}
@@ -14,15 +14,16 @@ use Rattle.report_lanes.specs.Lanes.{Gathered, gathered, halted, gatherFrom, ga
 use Rattle.report.specs.declared.Reported.{Reported}
 use Rattle.report.specs.declared.Reported.the-variants.{Written, Refused}
 
--- the answer, and the lent output as the call leaves it
+-- RULES AA5. The answer, and the lent output as the call leaves it
 pub record Out : Type 0 where
   pub answer : Reported
   pub output : List ℕ
 
+-- RULES AA5. Both put together.
 abbrev pub out : Reported → List ℕ → Out
 out r o = record { answer = r; output = o }
 
--- "Too short an output is refusal 8 with the length needed."
+-- RULES AA5. "Too short an output is refusal 8 with the length needed."
 abbrev pub onGathered : Gathered → List ℕ → Out
 onGathered (gathered ls) output =
     cond (leb (length (reportText ls)) (length output))
@@ -30,6 +31,7 @@ onGathered (gathered ls) output =
     (out (Refused 8 (length (reportText ls))) output)
 onGathered (halted n) output = out (Refused n 0) output
 
+-- RULES AA5. The call.
 unfoldable pub reportOf : State → Lent → List ℕ → Out
 unfolding wholeState gatherFrom reportText overwrite
 reportOf st m output = cond (checked st m) (onGathered (gatherAll st m) output) (out (Refused 2 0) output)

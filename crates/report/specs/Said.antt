@@ -6,6 +6,7 @@ use Rattle.store.specs.Said.{toldWith}
 use Rattle.report.specs.declared.Reported.{Reported}
 use Rattle.report.specs.declared.Reported.the-variants.{Written, Refused}
 
+-- RULES X7.
 abbrev pub saidReported : Reported → Said
 saidReported (Written n) = answered aReport (n ∷ [])
 saidReported (Refused n told) = refused n (toldWith n told)

@@ -1,4 +1,4 @@
--- The writer's second pass, as the code goes: what was met in the first pass stands.
+-- RULES AA17. The writer's second pass, as the code goes: what was met in the first pass stands.
 use Prim.Native.Nat.{ℕ, _+_, _≤_}
 use mathlib.Core.Path.{_≡_}
 use mathlib.Core.Bool.{true}
@@ -18,10 +18,11 @@ abbrev pub lanesOf : Gathered → List Lane
 lanesOf (gathered ls) = ls
 lanesOf (halted n) = []
 
+-- RULES AA17. Those of a store.
 abbrev pub lanesMet : State → Lent → List Lane
 lanesMet st m = lanesOf (gatherAll st m)
 
--- none was damaged, and their text fits from a place on
+-- RULES AA17. None was damaged, and their text fits from a place on
 pub record Room (st : State) (m : Lent) (from size : ℕ) : Type 0 where
   pub whole : checked st m ≡ true
   pub met : gatherAll st m ≡ gathered (lanesMet st m)

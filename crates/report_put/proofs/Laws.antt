@@ -11,10 +11,11 @@ use lib.Dec.{ltb}
 use lib.ListN.{length, take, drop, getD, set, length-append, length-drop, length-set}
 use lib.Seq.{take-suc, take-all, getD-drop}
 use borrow.Author.Tests.{lt-ltb, le-ltb}
+use Rattle.limits.specs.Limits.{digitLimit}
 use Rattle.spans.specs.Span.{readSpan, overwrite}
 use Rattle.spans.proofs.Laws.{length-overwrite, read-after, span-at, store-one, store-next, overwrite-append}
 use Rattle.spans.proofs.Laws.{overwrite-swap, overwrite-none, overwrite-all}
-use Rattle.report_text.specs.Text.{newline, hexDigit, hex, digits, digitLimit, decimal, line}
+use Rattle.report_text.specs.Text.{newline, hexDigit, hex, digits, decimal, line}
 use Rattle.report_text.proofs.Values.{digits-last, digits-on, reach, hex-length}
 
 -- ---- hex

@@ -1,4 +1,4 @@
--- RULES AA21. A row a case: what the reader's calls say of document 02's two texts and of bad ones.
+-- RULES AA15. A row a case: what the reader's calls say of document 02's two texts and of bad ones.
 use Prim.Native.Nat.{ℕ}
 use mathlib.Core.Path.{_≡_, refl}
 use mathlib.Core.List.{List, [], _∷_, _++_}
@@ -10,6 +10,7 @@ use Rattle.report_read.specs.Lane.{laneOf}
 use Rattle.report_read.specs.Said.{saidChecked, saidPicked, saidUnhexed}
 use Rattle.report_read.specs.Unhex.{unhexOf}
 
+-- RULES AA15.
 pub said-checked : (saidChecked (checkedOf (textRead empty-text)) ≡ answered someLanes (0 ∷ 0 ∷ []))
     × (saidChecked (checkedOf (textRead a-text)) ≡ answered someLanes (1 ∷ 3 ∷ []))
     × (saidChecked (checkedOf (textRead [])) ≡ refused 15 (1 ∷ []))
@@ -17,7 +18,7 @@ pub said-checked : (saidChecked (checkedOf (textRead empty-text)) ≡ answered s
 unfolding textRead empty-text a-text
 said-checked = (refl, refl, refl, refl)
 
--- `41` stands behind 29 bytes, `010203` behind 44
+-- RULES AA15. `41` stands behind 29 bytes, `010203` behind 44
 pub said-picked : (saidPicked (laneOf a-text 0) ≡ answered aLane (29 ∷ 2 ∷ 44 ∷ 6 ∷ []))
     × (saidPicked (laneOf a-text 1) ≡ answered noSuchLane [])
     × (saidPicked (laneOf empty-text 0) ≡ answered noSuchLane [])
@@ -25,7 +26,7 @@ pub said-picked : (saidPicked (laneOf a-text 0) ≡ answered aLane (29 ∷ 2 ∷
 unfolding laneOf empty-text a-text
 said-picked = (refl, refl, refl, refl)
 
--- `0a0f`, `0A` and `0`
+-- RULES AA15. `0a0f`, `0A` and `0`
 pub said-unhexed : (saidUnhexed (unhexOf (48 ∷ 97 ∷ 48 ∷ 102 ∷ []) (7 ∷ 7 ∷ 7 ∷ []) .answer)
     ≡ answered someBytes (2 ∷ []))
     × (unhexOf (48 ∷ 97 ∷ 48 ∷ 102 ∷ []) (7 ∷ 7 ∷ 7 ∷ []) .output ≡ 10 ∷ 15 ∷ 7 ∷ [])

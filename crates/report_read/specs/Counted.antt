@@ -1,4 +1,4 @@
--- RULES AA15 to AA19. The reader by counts: what the code does. It keeps no lanes, only how many there are and their
+-- RULES AA10, AA17. The reader by counts: what the code does. It keeps no lanes, only how many there are and their
 -- bytes; a name was seen before where its whole line is the term= line of an earlier lane. proofs/Counted.antt has that
 -- it answers what the reader says.
 use Prim.Native.Nat.{ℕ, zero, suc, _+_}
@@ -18,7 +18,7 @@ use Rattle.report_read.specs.declared.check.Checked.{Checked}
 use Rattle.report_read.specs.declared.check.Checked.the-variants.{Lanes, Refused}
 use Rattle.report_read.specs.Lines.{lineLength, lineAt, nextLine, nextLane, firstLane}
 
--- a line like this begins one of k lanes, the first of them at a place
+-- RULES AA17. A line like this begins one of k lanes, the first of them at a place
 unfoldable pub seenAmong : ℕ → List ℕ → List ℕ → ℕ → Bool
 unfolding equalBytes nextLane lineLength
 seenAmong zero x t at = false
@@ -80,6 +80,7 @@ bytesCounted p l =
     onBytes (bytesIn bytesWord l)
     (λ n. goodIf (eqb n (p .length)) (progress 3 (p .terms) (p .total) (p .lanes + 1) (p .bytes + n) 0))
 
+-- RULES AA17. What a line makes of the counts.
 unfoldable pub lineCounted : List ℕ → Progress → List ℕ → Line
 unfolding storeCounted termsCounted totalCounted laneCounted lengthCounted bytesCounted
 lineCounted t p l =
@@ -103,19 +104,20 @@ abbrev pub onLine : Line → ℕ → (Progress → Checked) → Checked
 onLine (Good p) n k = k p
 onLine Bad n k = Refused 15 n
 
--- behind k lines
+-- RULES AA17. Behind k lines
 unfoldable pub linesCounted : List ℕ → Progress → ℕ → Lines → Checked
 unfolding lineCounted
 linesCounted t p k (ended l ls) = onLine (lineCounted t p l) (suc k) (λ q. linesCounted t q (suc k) ls)
 linesCounted t p k (unended l) = restCounted p (suc k) l
 
+-- RULES AA17. The whole text.
 unfoldable pub textCounted : List ℕ → Checked
 unfolding linesCounted linesOf
 textCounted t = linesCounted t (progress 0 0 0 0 0 0) 0 (linesOf t)
 
 -- ---- the call
 
--- RULES AA16. What the reader says of a text, without its lanes.
+-- RULES AA10. What the reader says of a text, without its lanes.
 abbrev pub checkedOf : Told → Checked
 checkedOf (lanes ls) = Lanes (length ls) (totalOf ls)
 checkedOf (bad n) = Refused 15 n

@@ -1,4 +1,5 @@
--- RULES AA20. What the reader promises beyond its calls' own equations. One record; proofs/Promises.antt has its value.
+-- RULES AA11, X8. What the reader promises beyond its calls' own equations. One record; proofs/Promises.antt has its
+-- value.
 use Prim.Native.Nat.{ℕ, _+_, _≤_}
 use mathlib.Core.Path.{_≡_}
 use mathlib.Core.Option.{some}
@@ -14,7 +15,7 @@ use Rattle.report_read.specs.Counted.{checkedOf}
 use Rattle.report_read.specs.Lane.{laneOf}
 use Rattle.report_read.specs.Unhex.{Out, unhexOf}
 
--- the parts of a text that an index picks: the hex of a lane's name and of its bytes
+-- RULES AA11. The parts of a text that an index picks: the hex of a lane's name and of its bytes
 pub record Parts (t : List ℕ) (i : ℕ) (a : Lane) : Type 0 where
   pub name-from : ℕ
   pub name-long : ℕ
@@ -26,6 +27,7 @@ pub record Parts (t : List ℕ) (i : ℕ) (a : Lane) : Type 0 where
   pub name-hex : bytesOf (readSpan name-from name-long t) ≡ some (a .name)
   pub bytes-hex : bytesOf (readSpan bytes-from bytes-long t) ≡ some (a .bytes)
 
+-- RULES AA11.
 pub record Promises : Type 0 where
   -- the lane given is the text's lane of that index
   pub lane-is : (t : List ℕ) (before : List Lane) (a : Lane) (behind : List Lane)
@@ -34,7 +36,7 @@ pub record Promises : Type 0 where
   pub lane-none : (t : List ℕ) (ls : List Lane) (i : ℕ)
       → textRead t ≡ lanes ls → length ls ≤ i → laneOf t i ≡ NoSuchLane
 
--- of each call, two outcomes that meet its contract are equal
+-- RULES X8. Of each call, two outcomes that meet its contract are equal
 pub record Settled : Type 0 where
   pub check-settled : (t : List ℕ) (x y : Checked) → x ≡ checkedOf (textRead t) → y ≡ checkedOf (textRead t) → x ≡ y
   pub lane-settled : (t : List ℕ) (i : ℕ) (x y : Picked) → x ≡ laneOf t i → y ≡ laneOf t i → x ≡ y

@@ -8,17 +8,18 @@ use Rattle.report_read.specs.declared.pick.Picked.the-variants.{Lane, No
 use Rattle.report_read.specs.declared.unhex.Unhexed.{Unhexed}
 use Rattle.report_read.specs.declared.unhex.Unhexed.the-variants.{Bytes, NoHex, Short}
 
--- "refusal 15 with the first bad line"
+-- RULES X7. "refusal 15 with the first bad line"
 abbrev pub saidChecked : Checked → Said
 saidChecked (Lanes n bytes) = answered someLanes (n ∷ bytes ∷ [])
 saidChecked (Refused n line) = refused n (line ∷ [])
 
+-- RULES X7.
 abbrev pub saidPicked : Picked → Said
 saidPicked (Lane name long bytes size) = answered aLane (name ∷ long ∷ bytes ∷ size ∷ [])
 saidPicked NoSuchLane = answered noSuchLane []
 saidPicked (Unread n line) = refused n (line ∷ [])
 
--- 8 tells the bytes needed
+-- RULES X7. 8 tells the bytes needed
 abbrev pub saidUnhexed : Unhexed → Said
 saidUnhexed (Bytes n) = answered someBytes (n ∷ [])
 saidUnhexed NoHex = answered noHex []

@@ -10,8 +10,8 @@ use lib.Dec.{leb, ltb, eqb}
 use lib.ListN.{length, take, drop, getD, drop-of-length-le}
 use lib.Seq.{drop-cons}
 use borrow.Author.Tests.{le-leb, lt-leb, leb-true, eq-eqb, ne-eqb}
+use Rattle.limits.specs.Limits.{digitLimit}
 use Rattle.numbers.proofs.Tests.{both}
-use Rattle.report_text.specs.Text.{digitLimit}
 use Rattle.report_text.specs.Reader.{isDigit, numberFrom, noLeadingZero, numberOf, isHex}
 use Rattle.report_text.specs.Values.{allHex, hexText}
 

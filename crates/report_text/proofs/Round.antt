@@ -8,12 +8,12 @@ use native.Mathlib.Omega.{arith}
 use lib.Dec.{leb, ltb, eqb, lit<}
 use lib.ListN.{length, length-append}
 use borrow.Author.Tests.{le-leb, eq-eqb, ne-eqb}
-use Rattle.limits.specs.Limits.{nameLimit}
+use Rattle.limits.specs.Limits.{nameLimit, digitLimit}
 use Rattle.numbers.specs.LittleEndian.{Bytes}
 use Rattle.fastcmp.specs.Equal.{equalBytes}
 use Rattle.fastcmp.proofs.Laws.{equal-refl, equal-not}
 use Rattle.report_text.specs.Text.{Lane, lane, totalOf, newline, storeLine, termsWord, totalWord, termWord}
-use Rattle.report_text.specs.Text.{lenWord, bytesWord, endLine, digitLimit, digits, decimal, hex, line, laneText}
+use Rattle.report_text.specs.Text.{lenWord, bytesWord, endLine, digits, decimal, hex, line, laneText}
 use Rattle.report_text.specs.Text.{lanesText, headText, reportText}
 use Rattle.report_text.specs.Reader.{ended, unended, inFront, linesOf, valueAfter, numberOf, bytesOf, numberIn}
 use Rattle.report_text.specs.Reader.{bytesIn, named, Expects, aStore, aTerms, aTotal, aLane, aLength, someBytes}

@@ -10,8 +10,9 @@ use native.Mathlib.Omega.{arith}
 use lib.Dec.{leb, ltb, eqb}
 use lib.ListN.{length, length-append}
 use borrow.Author.Tests.{ltb-true, ltb-false, lt-ltb, le-ltb, le-leb, lt-leb, ne-eqb}
+use Rattle.limits.specs.Limits.{digitLimit}
 use Rattle.numbers.specs.LittleEndian.{Bytes}
-use Rattle.report_text.specs.Text.{digits, digitLimit, decimal, hexDigit, hex, newline}
+use Rattle.report_text.specs.Text.{digits, decimal, hexDigit, hex, newline}
 use Rattle.report_text.specs.Reader.{isDigit, numberFrom, noLeadingZero, numberOf, isHex, hexValue, byteBefore}
 use Rattle.report_text.specs.Reader.{bytesOf}
 

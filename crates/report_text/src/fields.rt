@@ -34,7 +34,7 @@ fn number(text: &[u8]) -> Decimal
     if n == 0 {
         return Decimal::NoNumber;
     }
-    if 18 < n {
+    if limits::DIGIT_LIMIT < n {
         return Decimal::NoNumber;
     }
     if n == 1 {
