@@ -14,7 +14,7 @@ use Rattle.report_lanes.specs.Lanes.{Gathered, gathered, halted, gatherFrom, ga
 use Rattle.report.specs.declared.Reported.{Reported}
 use Rattle.report.specs.declared.Reported.the-variants.{Written, Refused}
 
--- RULES AA5. The answer, and the lent output as the call leaves it
+-- RULES AA5. The answer, and the lent output as the call leaves it.
 pub record Out : Type 0 where
   pub answer : Reported
   pub output : List ℕ

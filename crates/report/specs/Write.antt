@@ -22,7 +22,7 @@ lanesOf (halted n) = []
 abbrev pub lanesMet : State → Lent → List Lane
 lanesMet st m = lanesOf (gatherAll st m)
 
--- RULES AA17. None was damaged, and their text fits from a place on
+-- RULES AA17. None was damaged, and their text fits from a place on.
 pub record Room (st : State) (m : Lent) (from size : ℕ) : Type 0 where
   pub whole : checked st m ≡ true
   pub met : gatherAll st m ≡ gathered (lanesMet st m)

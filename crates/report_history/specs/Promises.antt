@@ -17,12 +17,12 @@ use Rattle.report_read.specs.Counted.{checkedOf}
 use Rattle.report.specs.declared.Reported.the-variants.{Written, Refused}
 use Rattle.report.specs.Report.{out, reportOf}
 
--- RULES AA14. Each lane's bytes are its accepted appends, joined in order
+-- RULES AA14. Each lane's bytes are its accepted appends, joined in order.
 abbrev pub EachJoined : List Call → World → List Lane → Type 0
 EachJoined calls w [] = Unit {0}
 EachJoined calls w (a ∷ ls) = (joined (a .name) calls w ≡ some (a .bytes)) × EachJoined calls w ls
 
--- RULES AA14. W is the store at its start, ls its lanes after the calls
+-- RULES AA14. W is the store at its start, ls its lanes after the calls.
 pub record ReportsBack (w : World) (calls : List Call) (ls : List Lane) : Type 0 where
   -- the lanes are those that listing tells, in its order, each with its accepted appends joined
   pub listed : map (λ (a : Lane). a .name) ls ≡ listedNames (play calls w)

@@ -11,7 +11,7 @@ use Rattle.store.specs.declared.Listed.the-variants.{Bucket, NoMore, Stopped}
 use Rattle.store.specs.Look.{Lent, headerOf, blocksSound, nextOf}
 use Rattle.report_text.specs.Text.{Lane, lane}
 
--- RULES AA4. The lanes that were met, or a refusal's number
+-- RULES AA4. The lanes that were met, or a refusal's number.
 pub data Gathered : Type 0 where
   gathered : List Lane → Gathered
   halted : ℕ → Gathered
@@ -21,7 +21,7 @@ abbrev pub laneBefore : Lane → Gathered → Gathered
 laneBefore a (gathered ls) = gathered (a ∷ ls)
 laneBefore a (halted n) = halted n
 
--- RULES AA4. The lane of the record at a place
+-- RULES AA4. The lane of the record at a place.
 unfoldable pub laneAt : Lent → ℕ → Lane
 unfolding keyAt laneBytes
 laneAt m at = lane (keyAt (m .keys) at) (laneBytes (m .lists) (headerOf (m .keys) at))
@@ -32,12 +32,12 @@ onListed (Bucket i at) st m rest = cond (blocksSound st m at) (laneBefore (laneA
 onListed NoMore st m rest = gathered []
 onListed (Stopped n) st m rest = halted n
 
--- RULES AA4. By at most n questions for the next occupied bucket, the first of them from bucket i
+-- RULES AA4. By at most n questions for the next occupied bucket, the first of them from bucket i.
 unfoldable pub gatherFrom : State → Lent → ℕ → ℕ → Gathered
 unfolding nextOf blocksSound laneAt
 gatherFrom st m zero i = gathered []
 gatherFrom st m (suc n) i = onListed (nextOf st m i) st m (λ j. gatherFrom st m n j)
 
--- RULES AA4. All of them: no more than there are buckets
+-- RULES AA4. All of them: no more than there are buckets.
 abbrev pub gatherAll : State → Lent → Gathered
 gatherAll st m = gatherFrom st m (st .buckets) 0

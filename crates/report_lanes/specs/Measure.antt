@@ -24,7 +24,7 @@ use Rattle.report_lanes.specs.declared.Measured.{Measured}
 use Rattle.report_lanes.specs.declared.Measured.the-variants.{Sums, Halted}
 use Rattle.report_lanes.specs.Lanes.{Gathered, gathered, halted}
 
--- RULES AA17. The lane of the record at a place, in bucket i
+-- RULES AA17. The lane of the record at a place, in bucket i.
 unfoldable pub metOf : State → Lent → ℕ → ℕ → NextLane
 unfolding blocksSound keyLength laneLength
 metOf st m i at =
@@ -42,11 +42,11 @@ nextLaneOf st m i = onNextLane (nextOf st m i) st m
 
 -- RULES AA17. The bytes of a lane's text, by the bytes of its name and its own: proofs/Measuring.antt has that it is
 -- its text's
--- length
+-- length.
 abbrev pub laneSize : ℕ → ℕ → ℕ
 laneSize name n = 18 + 2 * name + length (decimal n) + 2 * n
 
--- RULES AA17. What is told of the lanes that were met
+-- RULES AA17. What is told of the lanes that were met.
 unfoldable pub measuredOf : Gathered → Measured
 unfolding totalOf lanesText
 measuredOf (gathered ls) = Sums (length ls) (totalOf ls) (length (lanesText ls))
@@ -81,7 +81,7 @@ onAnswer Absent i at name = Halt 4
 onAnswer (Found o) i at name = onOutcome o i at name
 onAnswer (Refused k n) i at name = cond (eqb k 8) (Lane i at name n) (Halt 4)
 
--- RULES AA17. The lane of the record at a place was met, and has n bytes
+-- RULES AA17. The lane of the record at a place was met, and has n bytes.
 pub record Standing (st : State) (m : Lent) (at n : ℕ) : Type 0 where
   pub list-arena : sensible (st .«list_arena») (length (m .lists)) ≡ true
   pub length-in : at + 2 ≤ length (m .keys)

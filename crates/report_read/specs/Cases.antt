@@ -18,7 +18,7 @@ pub said-checked : (saidChecked (checkedOf (textRead empty-text)) ≡ answered s
 unfolding textRead empty-text a-text
 said-checked = (refl, refl, refl, refl)
 
--- RULES AA15. `41` stands behind 29 bytes, `010203` behind 44
+-- RULES AA15. `41` stands behind 29 bytes, `010203` behind 44.
 pub said-picked : (saidPicked (laneOf a-text 0) ≡ answered aLane (29 ∷ 2 ∷ 44 ∷ 6 ∷ []))
     × (saidPicked (laneOf a-text 1) ≡ answered noSuchLane [])
     × (saidPicked (laneOf empty-text 0) ≡ answered noSuchLane [])
@@ -26,7 +26,7 @@ pub said-picked : (saidPicked (laneOf a-text 0) ≡ answered aLane (29 ∷ 2 ∷
 unfolding laneOf empty-text a-text
 said-picked = (refl, refl, refl, refl)
 
--- RULES AA15. `0a0f`, `0A` and `0`
+-- RULES AA15. `0a0f`, `0A` and `0`.
 pub said-unhexed : (saidUnhexed (unhexOf (48 ∷ 97 ∷ 48 ∷ 102 ∷ []) (7 ∷ 7 ∷ 7 ∷ []) .answer)
     ≡ answered someBytes (2 ∷ []))
     × (unhexOf (48 ∷ 97 ∷ 48 ∷ 102 ∷ []) (7 ∷ 7 ∷ 7 ∷ []) .output ≡ 10 ∷ 15 ∷ 7 ∷ [])

@@ -18,7 +18,7 @@ use Rattle.report_read.specs.declared.check.Checked.{Checked}
 use Rattle.report_read.specs.declared.check.Checked.the-variants.{Lanes, Refused}
 use Rattle.report_read.specs.Lines.{lineLength, lineAt, nextLine, nextLane, firstLane}
 
--- RULES AA17. A line like this begins one of k lanes, the first of them at a place
+-- RULES AA17. A line like this begins one of k lanes, the first of them at a place.
 unfoldable pub seenAmong : ℕ → List ℕ → List ℕ → ℕ → Bool
 unfolding equalBytes nextLane lineLength
 seenAmong zero x t at = false
@@ -104,7 +104,7 @@ abbrev pub onLine : Line → ℕ → (Progress → Checked) → Checked
 onLine (Good p) n k = k p
 onLine Bad n k = Refused 15 n
 
--- RULES AA17. Behind k lines
+-- RULES AA17. Behind k lines.
 unfoldable pub linesCounted : List ℕ → Progress → ℕ → Lines → Checked
 unfolding lineCounted
 linesCounted t p k (ended l ls) = onLine (lineCounted t p l) (suc k) (λ q. linesCounted t q (suc k) ls)

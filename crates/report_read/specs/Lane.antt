@@ -10,11 +10,11 @@ use Rattle.report_read.specs.declared.pick.Picked.{Picked}
 use Rattle.report_read.specs.declared.pick.Picked.the-variants.{Lane, NoSuchLane, Unread}
 use Rattle.report_read.specs.Lines.{lineLength, nextLine, lanesOn, firstLane}
 
--- RULES AA11. Where the bytes= line of the lane at a place begins
+-- RULES AA11. Where the bytes= line of the lane at a place begins.
 abbrev pub bytesLine : List ℕ → ℕ → ℕ
 bytesLine t at = nextLine t (nextLine t at)
 
--- RULES AA11. Behind `term=` and behind `bytes=`: start and length of each
+-- RULES AA11. Behind `term=` and behind `bytes=`: start and length of each.
 unfoldable pub partsAt : List ℕ → ℕ → Picked
 unfolding lineLength nextLine
 partsAt t at =
@@ -25,7 +25,7 @@ abbrev pub onTold : Told → List ℕ → ℕ → Picked
 onTold (lanes ls) t i = cond (ltb i (length ls)) (partsAt t (lanesOn i t (firstLane t))) NoSuchLane
 onTold (bad n) t i = Unread 15 n
 
--- RULES AA11. The whole text is checked first, whatever the index
+-- RULES AA11. The whole text is checked first, whatever the index.
 unfoldable pub laneOf : List ℕ → ℕ → Picked
 unfolding textRead partsAt lanesOn
 laneOf t i = onTold (textRead t) t i

@@ -15,7 +15,7 @@ use Rattle.report_read.specs.Counted.{checkedOf}
 use Rattle.report_read.specs.Lane.{laneOf}
 use Rattle.report_read.specs.Unhex.{Out, unhexOf}
 
--- RULES AA11. The parts of a text that an index picks: the hex of a lane's name and of its bytes
+-- RULES AA11. The parts of a text that an index picks: the hex of a lane's name and of its bytes.
 pub record Parts (t : List ℕ) (i : ℕ) (a : Lane) : Type 0 where
   pub name-from : ℕ
   pub name-long : ℕ
@@ -36,7 +36,7 @@ pub record Promises : Type 0 where
   pub lane-none : (t : List ℕ) (ls : List Lane) (i : ℕ)
       → textRead t ≡ lanes ls → length ls ≤ i → laneOf t i ≡ NoSuchLane
 
--- RULES X8. Of each call, two outcomes that meet its contract are equal
+-- RULES X8. Of each call, two outcomes that meet its contract are equal.
 pub record Settled : Type 0 where
   pub check-settled : (t : List ℕ) (x y : Checked) → x ≡ checkedOf (textRead t) → y ≡ checkedOf (textRead t) → x ≡ y
   pub lane-settled : (t : List ℕ) (i : ℕ) (x y : Picked) → x ≡ laneOf t i → y ≡ laneOf t i → x ≡ y

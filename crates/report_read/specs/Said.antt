@@ -19,7 +19,7 @@ saidPicked (Lane name long bytes size) = answered aLane (name ∷ long ∷ bytes
 saidPicked NoSuchLane = answered noSuchLane []
 saidPicked (Unread n line) = refused n (line ∷ [])
 
--- RULES X7. 8 tells the bytes needed
+-- RULES X7. 8 tells the bytes needed.
 abbrev pub saidUnhexed : Unhexed → Said
 saidUnhexed (Bytes n) = answered someBytes (n ∷ [])
 saidUnhexed NoHex = answered noHex []

@@ -10,7 +10,7 @@ use Rattle.report_text.specs.Reader.{hexValue, bytesOf}
 use Rattle.report_read.specs.declared.unhex.Unhexed.{Unhexed}
 use Rattle.report_read.specs.declared.unhex.Unhexed.the-variants.{Bytes, NoHex, Short}
 
--- RULES AA12. Byte i of hex
+-- RULES AA12. Byte i of hex.
 abbrev pub byteIn : List ℕ → ℕ → ℕ
 byteIn cs i = 16 * hexValue (getD cs (2 * i) 0) + hexValue (getD cs (2 * i + 1) 0)
 
@@ -19,7 +19,7 @@ abbrev pub orNone : Option (List ℕ) → List ℕ
 orNone none = []
 orNone (some bs) = bs
 
--- RULES AA12. The answer, and the lent output as the call leaves it
+-- RULES AA12. The answer, and the lent output as the call leaves it.
 pub record Out : Type 0 where
   pub answer : Unhexed
   pub output : List ℕ

@@ -23,7 +23,7 @@ pub written-cases : (reportText [] ≡ empty-text) × (reportText (lane (65 ∷ 
 unfolding reportText empty-text a-text
 written-cases = (refl, refl)
 
--- RULES AA15. Read; without a byte; bytes after the end; a line without its newline
+-- RULES AA15. Read; without a byte; bytes after the end; a line without its newline.
 pub read-cases : (textRead empty-text ≡ lanes [])
     × (textRead a-text ≡ lanes (lane (65 ∷ []) (1 ∷ 2 ∷ 3 ∷ []) ∷ []))
     × (textRead [] ≡ bad 1)

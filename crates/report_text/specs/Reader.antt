@@ -14,7 +14,7 @@ use Rattle.report_text.specs.Text.{lenWord, bytesWord, endLine}
 
 -- ---- lines
 
--- RULES AA6. A text's lines, each ended by its newline, and what follows the last newline
+-- RULES AA6. A text's lines, each ended by its newline, and what follows the last newline.
 pub data Lines : Type 0 where
   ended : List ℕ → Lines → Lines
   unended : List ℕ → Lines
@@ -36,7 +36,7 @@ abbrev pub andThen : {A B : Type 0} → Option A → (A → Option B) → Option
 andThen none f = none
 andThen (some x) f = f x
 
--- RULES AA8. What follows a word in a line that begins with it
+-- RULES AA8. What follows a word in a line that begins with it.
 unfoldable pub valueAfter : List ℕ → List ℕ → Option (List ℕ)
 valueAfter [] l = some l
 valueAfter (w ∷ ws) [] = none
@@ -46,7 +46,7 @@ valueAfter (w ∷ ws) (c ∷ l) = cond (eqb w c) (valueAfter ws l) none
 abbrev pub isDigit : ℕ → Bool
 isDigit c = leb 48 c && leb c 57
 
--- RULES AA8. The number that digits behind a number v make
+-- RULES AA8. The number that digits behind a number v make.
 unfoldable pub numberFrom : ℕ → List ℕ → Option ℕ
 numberFrom v [] = some v
 numberFrom v (c ∷ cs) = cond (isDigit c) (numberFrom (10 * v + (c - 48)) cs) none
@@ -70,12 +70,12 @@ isHex c = isDigit c || (leb 97 c && leb c 102)
 abbrev pub hexValue : ℕ → ℕ
 hexValue c = cond (leb c 57) (c - 48) (c - 87)
 
--- RULES AA8. A byte in front
+-- RULES AA8. A byte in front.
 abbrev pub byteBefore : ℕ → Option (List ℕ) → Option (List ℕ)
 byteBefore b none = none
 byteBefore b (some bs) = some (b ∷ bs)
 
--- RULES AA8. Two lower-case digits a byte
+-- RULES AA8. Two lower-case digits a byte.
 unfoldable pub bytesOf : List ℕ → Option (List ℕ)
 bytesOf [] = some []
 bytesOf (c ∷ []) = none
@@ -93,14 +93,14 @@ bytesIn word l = andThen (valueAfter word l) bytesOf
 
 -- ---- line by line
 
--- RULES AA7. A lane of this name is among them
+-- RULES AA7. A lane of this name is among them.
 unfoldable pub named : List ℕ → List Lane → Bool
 unfolding equalBytes
 named n [] = false
 named n (a ∷ ls) = cond (equalBytes n (a .name)) true (named n ls)
 
 -- RULES AA7. What the next line is to be, with what was read so far: terms=, total=, the whole lanes, a lane's name,
--- its length
+-- its length.
 pub data Expects : Type 0 where
   aStore : Expects
   aTerms : Expects
@@ -119,16 +119,16 @@ unfoldable pub nameTaken : ℕ → ℕ → List Lane → List ℕ → Option Exp
 unfolding named
 nameTaken terms total ls n = provided (leb (length n) nameLimit && not (named n ls)) (aLength terms total ls n)
 
--- RULES AA7. end=1 "where terms= or total= isn't met" is bad
+-- RULES AA7. end=1 "where terms= or total= isn't met" is bad.
 unfoldable pub endTaken : ℕ → ℕ → List Lane → Option Expects
 unfolding totalOf
 endTaken terms total ls = provided (eqb (length ls) terms && eqb (totalOf ls) total) (nothing ls)
 
--- RULES AA7. "bytes= not of len" is bad
+-- RULES AA7. "bytes= not of len" is bad.
 abbrev pub bytesTaken : ℕ → ℕ → List Lane → List ℕ → ℕ → List ℕ → Option Expects
 bytesTaken terms total ls n len bs = provided (eqb (length bs) len) (aLane terms total (ls ++ (lane n bs ∷ [])))
 
--- RULES AA7. What a line makes of it; none for a bad line
+-- RULES AA7. What a line makes of it; none for a bad line.
 unfoldable pub lineRead : Expects → List ℕ → Option Expects
 unfolding equalBytes numberIn bytesIn nameTaken endTaken
 lineRead aStore l = provided (equalBytes l storeLine) aTerms
@@ -143,14 +143,14 @@ lineRead (nothing ls) l = none
 
 -- ---- the whole text
 
--- RULES AA6. The lanes, or the first bad line, from 1
+-- RULES AA6. The lanes, or the first bad line, from 1.
 pub data Told : Type 0 where
   lanes : List Lane → Told
   bad : ℕ → Told
 
 -- RULES AA6. What follows the last newline, as line n: nothing where all is read; else a missing or unended line, or
 -- bytes after
--- the end
+-- the end.
 abbrev pub noMore : List ℕ → Told → Told → Told
 noMore [] good wrong = good
 noMore (c ∷ cs) good wrong = wrong
@@ -170,7 +170,7 @@ abbrev pub orBad : Option Expects → ℕ → (Expects → Told) → Told
 orBad none n k = bad n
 orBad (some s) n k = k s
 
--- RULES AA6. From line n on
+-- RULES AA6. From line n on.
 unfoldable pub linesRead : Expects → ℕ → Lines → Told
 unfolding lineRead
 linesRead s n (ended l ls) = orBad (lineRead s l) n (λ s′. linesRead s′ (suc n) ls)

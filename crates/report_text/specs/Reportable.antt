@@ -21,7 +21,7 @@ abbrev pub EachFits : List Lane → Type 0
 EachFits [] = Unit {0}
 EachFits (a ∷ ls) = Fits a × EachFits ls
 
--- RULES AA13. No name was seen before it
+-- RULES AA13. No name was seen before it.
 abbrev pub Unseen : List Lane → List Lane → Type 0
 Unseen seen [] = Unit {0}
 Unseen seen (a ∷ ls) = (named (a .name) seen ≡ false) × Unseen (seen ++ (a ∷ [])) ls

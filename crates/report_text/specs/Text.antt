@@ -8,7 +8,7 @@ use lib.Dec.{ltb}
 use lib.ListN.{length}
 use Rattle.limits.specs.Limits.{digitLimit}
 
--- RULES AA2. A lane of a report
+-- RULES AA2. A lane of a report.
 pub record Lane : Type 0 where
   pub name : List ℕ
   pub bytes : List ℕ
@@ -17,7 +17,7 @@ pub record Lane : Type 0 where
 abbrev pub lane : List ℕ → List ℕ → Lane
 lane n bs = record { name = n; bytes = bs }
 
--- RULES AA2. The bytes of all lanes together
+-- RULES AA2. The bytes of all lanes together.
 unfoldable pub totalOf : List Lane → ℕ
 totalOf [] = 0
 totalOf (a ∷ ls) = length (a .bytes) + totalOf ls
@@ -58,27 +58,27 @@ endLine = 101 ∷ 110 ∷ 100 ∷ 61 ∷ 49 ∷ []
 
 -- ---- numbers and bytes
 
--- RULES AA3. The last w digits of n, the highest first, no leading zero
+-- RULES AA3. The last w digits of n, the highest first, no leading zero.
 unfoldable pub digits : ℕ → ℕ → List ℕ
 digits zero n = []
 digits (suc w) n = cond (ltb n 10) ((48 + n) ∷ []) (digits w (n / 10) ++ ((48 + n % 10) ∷ []))
 
--- RULES AA3. A number below 10^18
+-- RULES AA3. A number below 10^18.
 abbrev pub decimal : ℕ → List ℕ
 decimal n = digits digitLimit n
 
--- RULES AA3. 0 to 9, a to f
+-- RULES AA3. 0 to 9, a to f.
 abbrev pub hexDigit : ℕ → ℕ
 hexDigit n = cond (ltb n 10) (48 + n) (87 + n)
 
--- RULES AA3. Two digits a byte
+-- RULES AA3. Two digits a byte.
 unfoldable pub hex : List ℕ → List ℕ
 hex [] = []
 hex (b ∷ bs) = hexDigit (b / 16) ∷ hexDigit (b % 16) ∷ hex bs
 
 -- ---- the text
 
--- RULES AA1. A word, its value, one newline
+-- RULES AA1. A word, its value, one newline.
 abbrev pub line : List ℕ → List ℕ → List ℕ
 line word value = word ++ (value ++ (newline ∷ []))
 

@@ -17,12 +17,12 @@ abbrev pub decimalOf : Option ℕ → Decimal
 decimalOf none = NoNumber
 decimalOf (some n) = Number n
 
--- RULES AA8. How many bytes hex stands for
+-- RULES AA8. How many bytes hex stands for.
 abbrev pub hexedOf : Option (List ℕ) → Hexed
 hexedOf none = NoBytes
 hexedOf (some bs) = Bytes (length bs)
 
--- RULES AA8. A line begins with a word
+-- RULES AA8. A line begins with a word.
 unfoldable pub beginsWith : List ℕ → List ℕ → Bool
 unfolding equalBytes
 beginsWith word l = cond (leb (length word) (length l)) (equalBytes (take (length word) l) word) false
@@ -32,7 +32,7 @@ unfoldable pub allHex : List ℕ → Bool
 allHex [] = true
 allHex (c ∷ cs) = cond (isHex c) (allHex cs) false
 
--- RULES AA8. Lower-case hex, two digits a byte; proofs/Words.antt has that just this reads as bytes
+-- RULES AA8. Lower-case hex, two digits a byte; proofs/Words.antt has that just this reads as bytes.
 unfoldable pub hexText : List ℕ → Bool
 unfolding allHex
 hexText cs = cond (eqb (length cs % 2) 0) (allHex cs) false
