@@ -1,8 +1,13 @@
 #!/usr/bin/env python3
-"""A model of the testbench and of the store, written from document 01 alone: plays a script on standard input, prints the answers.
-It shares no code with the crates; it is slow, and it is there to be held against them."""
+"""A model of the testbench and of the store, written from documents 01 and 02 alone: plays a script on standard input,
+prints the answers. It shares no code with the crates; it is slow, and it is there to be held against them."""
+import os
 import re
 import sys
+
+sys.dont_write_bytecode = True
+sys.path.insert(0, os.path.dirname(os.path.abspath(__file__)))
+import report  # noqa: E402
 
 PAGE = 1048576
 ARENA = 67108864
@@ -244,6 +249,20 @@ class Store:
             i += 1
         return None
 
+    def lanes(self):
+        """each listed lane, read through its own record"""
+        found, i = [], 0
+        while True:
+            met = self.next(i)
+            if met is None:
+                return found
+            i, at = met[0] + 1, met[1]
+            v, b, head, tail, rem = self.header(at)
+            places = self.blocks(b, head, b - 2)
+            whole = b"".join(bytes(self.lists[p:p + block_size(3 + k)]) for k, p in enumerate(places))
+            name = bytes(self.keys[at + 2:at + 2 + number(self.keys[at:at + 2])])
+            found.append((name, whole[:self.lane_length(b, rem)]))
+
     def plan(self, b, rem, n):
         """addresses of the blocks that n bytes take, and the arena state after them"""
         page, used = self.s["list_page"], self.s["list_used"]
@@ -361,10 +380,14 @@ copy A B
 allocate PAGE USED LENGTH N
 get PAGE USED LENGTH PLACE N
 put PAGE USED LENGTH PLACE BYTES
-help""".split("\n")
+help
+report ROOM
+unreport BYTES
+report-lane BYTES INDEX""".split("\n")
 COMMANDS = {u.split()[0]: u for u in USAGE}
 HELP = """# a command to a line, words one space apart; an empty line and one that begins with # are passed over
-# NUMBERS are decimal; BYTES and NAMES are hex pairs, - for none, N*HH for N times a byte, joined by +, or 'letters-and-digits
+# NUMBERS are decimal
+# BYTES and NAMES are hex pairs, - for none, N*HH for N times a byte, joined by +, or 'letters-and-digits
 # AREA is table (of words), keys or lists; FIELD is a name that state tells; end is 0 at the front, 1 at the back
 # allocate, get and put: the bare arena over the first LENGTH bytes of the lent list area"""
 
@@ -555,6 +578,31 @@ class Bench:
         self.st.lists[place:place + len(b)] = b
         return "put"
 
+    def report(self, room):
+        room = num(room)
+        if room > PAGE:
+            raise Fault("output too long: at most 1048576")
+        try:
+            text = report.text_of(self.st.lanes())
+            if len(text) > room:
+                raise Refused(8, len(text))
+            return "report %d %s kept" % (len(text), shown(text))
+        except Refused as e:
+            return "refused %d%s kept" % (e.number, "" if e.told is None else " %d" % e.told)
+
+    def unreport(self, b):
+        lanes, line = report.lanes_of(bytes(data(b)))
+        if lanes is None:
+            return "refused 15 %d" % line
+        return "lanes %d %d" % (len(lanes), sum(len(bs) for _, bs in lanes))
+
+    def report_lane(self, b, index):
+        b, index = bytes(data(b)), num(index)
+        lanes, line = report.lanes_of(b)
+        if lanes is None:
+            return "refused 15 %d" % line
+        return "lane %s %s" % tuple(map(shown, lanes[index])) if index < len(lanes) else "no such lane"
+
     def help(self):
         return HELP + "\n" + "\n".join("# " + u for u in USAGE)
 
@@ -570,7 +618,7 @@ class Bench:
         if len(words) != len(usage.split(" ")):
             return "? usage: " + usage
         try:
-            return getattr(self, words[0])(*words[1:])
+            return getattr(self, words[0].replace("-", "_"))(*words[1:])
         except Refused as e:
             return "refused %d" % e.number
         except Absent:

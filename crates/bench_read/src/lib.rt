@@ -86,25 +86,6 @@ fn block(st: State, line: &[u8], table: &[u32], keys: &[u8], lists: &[u8], name:
     say::end()
 }
 
-// Whether all bytes are still what the output was filled with.
-fn is_kept(area: &[u8]) -> bool {
-    let mut i = 0;
-    while i < area.len() {
-        if area[i] != 0xee {
-            return false;
-        }
-        i += 1;
-    }
-    true
-}
-
-fn say_kept(area: &[u8]) {
-    if is_kept(area) {
-        return say::line(b" kept");
-    }
-    say::line(b" changed")
-}
-
 // How many bytes an answer has read.
 fn bytes_read(a: Answer) -> usize {
     let Answer::Found(o) = a else {
@@ -116,21 +97,13 @@ fn bytes_read(a: Answer) -> usize {
     n as usize
 }
 
-// A reading that was made: its bytes, and whether those behind them are kept.
-fn say_read(n: usize, output: &[u8]) {
-    let k = text::least(n, output.len());
-    say::text(b" ");
-    say::bytes(&output[0..k]);
-    say_kept(&output[k..])
-}
-
 // A reading's answer.
 fn say_reading(a: Answer, output: &[u8]) {
     say_answer(a);
     let Answer::Found(_) = a else {
-        return say_kept(output);
+        return say::kept(output);
     };
-    say_read(bytes_read(a), output)
+    say::written(bytes_read(a), output)
 }
 
 // A reading into an output, which is filled with ee before.

@@ -105,6 +105,34 @@ pub fn bytes_line(shown: &[u8]) {
     end();
 }
 
+// Whether all bytes are still ee, which an output is filled with before a call.
+fn is_kept(area: &[u8]) -> bool {
+    let mut i = 0;
+    while i < area.len() {
+        if area[i] != 0xee {
+            return false;
+        }
+        i += 1;
+    }
+    true
+}
+
+// Whether an output's bytes are as they were; it ends the line.
+pub fn kept(area: &[u8]) {
+    if is_kept(area) {
+        return line(b" kept");
+    }
+    line(b" changed")
+}
+
+// What was written to an output's front, and whether what is behind it is as it was; it ends the line.
+pub fn written(n: usize, output: &[u8]) {
+    let k = text::least(n, output.len());
+    text(b" ");
+    bytes(&output[0..k]);
+    kept(&output[k..])
+}
+
 fn one_word(n: u32) {
     decimal(n as u64);
 }

@@ -2,8 +2,9 @@
 use script::rows;
 
 // A row a command: its number, then how it is written. The tens of the number say whose `play` has its arm: 1
-// bench_write, 2 bench_read, 3 bench_state, 4 bench_areas, 5 bench_lower; those below 10 are this program's.
-const TABLE: [u8; 462] = *b"1 lend WORDS KEYBYTES LISTBYTES HH
+// bench_write, 2 bench_read, 3 bench_state, 4 bench_areas, 5 bench_lower, 6 bench_report; those below 10
+// are this program's.
+const TABLE: [u8; 522] = *b"1 lend WORDS KEYBYTES LISTBYTES HH
 10 create CAPACITY SEED
 11 append NAME BYTES
 20 lookup NAME
@@ -27,6 +28,9 @@ const TABLE: [u8; 462] = *b"1 lend WORDS KEYBYTES LISTBYTES HH
 56 get PAGE USED LENGTH PLACE N
 57 put PAGE USED LENGTH PLACE BYTES
 2 help
+60 report ROOM
+61 unreport BYTES
+62 report-lane BYTES INDEX
 ";
 
 // The number of the command that a line is, 0 where it can't be played.

@@ -51,6 +51,7 @@ fn play_same(
         2 => bench_read::play(k, st, line, table, keys, lists, name, output),
         4 => bench_areas::play(k, st, line, table, keys, lists, name, output),
         5 => bench_lower::play(k, line, lists, name, output),
+        6 => bench_report::play(k, st, line, table, keys, lists, name, output),
         _ => commands::help(),
     }
 }
