@@ -1,15 +1,18 @@
 -- Laws of the test of equality: what it says, a turn of a loop over bytes or over parts, parts that cover the whole. Assumes nothing.
-use Prim.Native.Nat.{ℕ, zero, suc, _+_, _-_, _*_, _/_, _%_, _≤_, _<_}
+use Prim.Native.Nat.{ℕ, _+_, _≤_, _<_}
 use mathlib.Core.Path.{_≡_, refl, sym, ap, _∙_}
 use mathlib.Core.Bool.{Bool, true, false, _&&_, false≢true}
 use mathlib.Core.List.{List, [], _∷_, _++_}
-use native.Mathlib.Nat.{zero-mul, suc-mul, mod-lt, div-add-mod'}
 use native.Mathlib.Numerals.{add-one}
 use native.Mathlib.Omega.{arith}
 use lib.Dec.{eqb}
 use lib.ListN.{length, take, drop, getD, drop-of-length-le}
-use lib.Seq.{drop-cons, take-all, take-length, take-take, take-add}
-use borrow.Author.Tests.{eq-eqb, eqb-true}
+use lib.Seq.{drop-cons, take-all, take-take, take-add}
+use borrow.Author.Tests.{eq-eqb, eqb-true, eqb-false}
+use Rattle.numbers.specs.LittleEndian.{leNumber}
+use Rattle.numbers.proofs.Laws.{le-same}
+use Rattle.spans.specs.Span.{readSpan}
+use Rattle.spans.proofs.Laws.{length-span, span-bytes}
 use Rattle.fastcmp.specs.Equal.{equalBytes}
 
 -- ---- what the test says
@@ -70,46 +73,33 @@ pub equal-end : (a b : List ℕ) (i : ℕ) → length a ≤ i → length b ≤ i
 unfolding equalBytes
 equal-end a b i h k = rw (drop-of-length-le a h, drop-of-length-le b k)
 
--- ---- parts
+-- ---- eight bytes as one number
 
--- the part from f to e, as a contract has `&m[f..e]`
-abbrev pub part : ℕ → ℕ → List ℕ → List ℕ
-part f e m = take (e - f) (drop f m)
+-- the span of eight from i in two lists of bytes, by its number
+pub span-same : (a b : List ℕ) (i : ℕ) → ((k : ℕ) → getD a k 0 < 256) → ((k : ℕ) → getD b k 0 < 256) → i + 8 ≤ length a → i + 8 ≤ length b
+    → leNumber (readSpan i 8 a) ≡ leNumber (readSpan i 8 b) → readSpan i 8 a ≡ readSpan i 8 b
+span-same a b i f g h k e =
+    le-same (readSpan i 8 a) (readSpan i 8 b) (span-bytes a i 8 f) (span-bytes b i 8 g)
+    (length-span i 8 a h ∙ sym (length-span i 8 b k)) e
 
--- equal as far as i, and in a part that starts there or earlier: equal as far as the part goes
-pub equal-on : (a b : List ℕ) (i f e : ℕ) → f ≤ i → f ≤ e → take i a ≡ take i b → equalBytes (part f e a) (part f e b) ≡ true → take e a ≡ take e b
-equal-on a b i f e h k p q =
-    let n : f + (e - f) ≡ e = omega arith in
-    let s : take f a ≡ take f b = sym (take-take f i a h) ∙ ap (take f) p ∙ take-take f i b h in
-    rw n at (take-add f (e - f) a ∙ (λ j. s j ++ equal-true (part f e a) (part f e b) q j) ∙ sym (take-add f (e - f) b))
+-- equal as far as i, and in the eight from j, which is i or before it: equal as far as those go
+pub eight-on : (a b : List ℕ) (i j : ℕ) → j ≤ i → take i a ≡ take i b → readSpan j 8 a ≡ readSpan j 8 b → take (j + 8) a ≡ take (j + 8) b
+unfolding readSpan
+eight-on a b i j h p q =
+    let s : take j a ≡ take j b = sym (take-take j i a h) ∙ ap (take j) p ∙ take-take j i b h in
+    take-add j 8 a ∙ (λ k. s k ++ q k) ∙ sym (take-add j 8 b)
 
--- equal as far as i: with a last part that starts there or earlier the whole is covered, and that part decides
-pub equal-covered : (a b : List ℕ) (i f : ℕ) → f ≤ i → f ≤ length a → length a ≡ length b → take i a ≡ take i b
-    → equalBytes (part f (length a) a) (part f (length b) b) ≡ equalBytes a b
-equal-covered a b i f h k l p =
-    rw (← l)
-    (equal-both (part f (length a) a) (part f (length a) b) a b
-    (λ q. sym (take-length a) ∙ equal-on a b i f (length a) h k p (equal-same (part f (length a) a) (part f (length a) b) q)
-    ∙ take-all (length a) b (omega arith))
-    (ap (part f (length a))))
+-- the numbers differ: so do the lists
+pub eight-not : (a b : List ℕ) (i : ℕ) → (leNumber (readSpan i 8 a) ≡ leNumber (readSpan i 8 b) → ⊥) → equalBytes a b ≡ false
+eight-not a b i h = equal-not a b (λ e. h (ap (λ (l : List ℕ). leNumber (readSpan i 8 l)) e))
 
--- ---- whole parts of a length
-
--- from i to last there are whole parts of the size: one, and `more` besides
-pub record PartsLeft (size i last : ℕ) : Type 0 where
-  pub more : ℕ
-  pub whole : last ≡ i + size + more * size
-
-pub parts-first : (len size : ℕ) → 0 < size → size ≤ len → PartsLeft size 0 (len - len % size)
-parts-first len size h k = go (len / size) (div-add-mod' len size)
+-- equal as far as i, and the last eight, which start there or before, have one number or not: that decides
+pub eight-last : (a b : List ℕ) (i j : ℕ) → ((k : ℕ) → getD a k 0 < 256) → ((k : ℕ) → getD b k 0 < 256) → j ≤ i → j + 8 ≡ length a → length a ≡ length b
+    → take i a ≡ take i b → (x y : ℕ) → x ≡ leNumber (readSpan j 8 a) → y ≡ leNumber (readSpan j 8 b) → eqb x y ≡ equalBytes a b
+eight-last a b i j f g h l n p x y q r = go (eqb x y) refl
   where
-    go : (q : ℕ) → q * size + len % size ≡ len → PartsLeft size 0 (len - len % size)
-    go zero e = absurd (omega (arith, mod-lt len h, zero-mul size))
-    go (suc q) e = record { more = q; whole = omega (arith, suc-mul q size) }
-
-pub parts-next : (size i last : ℕ) → PartsLeft size i last → i + size < last → PartsLeft size (i + size) last
-parts-next size i last w h = go (w .more) (w .whole)
-  where
-    go : (k : ℕ) → last ≡ i + size + k * size → PartsLeft size (i + size) last
-    go zero e = absurd (omega (arith, zero-mul size))
-    go (suc k) e = record { more = k; whole = omega (arith, suc-mul k size) }
+    go : (t : Bool) → eqb x y ≡ t → eqb x y ≡ equalBytes a b
+    go true e =
+        let s = eight-on a b i j h p (span-same a b j f g (omega arith) (omega arith) (sym q ∙ eqb-true x y e ∙ r)) in
+        e ∙ sym (equal-same a b (sym (take-all (j + 8) a (omega arith)) ∙ s ∙ take-all (j + 8) b (omega arith)))
+    go false e = e ∙ sym (eight-not a b j (λ z. eqb-false x y e (q ∙ z ∙ sym r)))

@@ -1,17 +1,17 @@
 -- Laws of spans: lengths, reads of what was written and of what a write leaves alone, writes that meet, and how code's stores and
 -- lent parts are such writes. Assumes nothing.
-use Prim.Native.Nat.{ℕ, zero, suc, _+_, _-_, _^_, _≤_, _<_}
+use Prim.Native.Nat.{ℕ, zero, suc, _+_, _-_, _*_, _^_, _≤_, _<_}
 use mathlib.Core.Path.{_≡_, refl, sym, ap, _∙_}
 use mathlib.Core.Logic.{⊎-elim}
 use mathlib.Core.List.{List, [], _∷_, _++_, append-assoc}
-use native.Mathlib.Nat.{suc-add, zero-add}
+use native.Mathlib.Nat.{suc-add, zero-add, pow-suc, mul-assoc, mul-comm}
 use native.Mathlib.Numerals.{towards-suc}
 use native.Mathlib.Omega.{arith}
 use lib.ListN.{length, take, drop, getD, set, length-take, length-drop}
 use lib.Seq.{take-nil, drop-nil, take-add, drop-drop, drop-cons, take-suc, take-take, getD-take, getD-drop}
 use lib.Seq.{length-take-le, sets, sets-eq}
 use borrow.Rule.Slice.PartMut.{putMid, post-is}
-use Rattle.numbers.specs.LittleEndian.{leNumber, leBytes}
+use Rattle.numbers.specs.LittleEndian.{leNumber, leBytes, Bytes}
 use Rattle.numbers.proofs.Laws.{length-le, le-round}
 use Rattle.spans.specs.Span.{readSpan, overwrite, Apart}
 
@@ -218,3 +218,30 @@ pub number-back : (w p x : ℕ) (m : List ℕ) → p + w ≤ length m → x < 25
 number-back w p x m h k =
     let e : readSpan p w (overwrite p (leBytes w x) m) ≡ leBytes w x = rw length-le at (read-written p (leBytes w x) m (omega (arith, length-le w x))) in
     rw e (le-round w x k)
+
+-- the number of two runs of bytes, one behind the other
+number-append : (bs cs : List ℕ) → leNumber (bs ++ cs) ≡ leNumber bs + 256 ^ length bs * leNumber cs
+unfolding leNumber
+number-append [] cs = omega arith
+number-append (b ∷ bs) cs =
+    rw (number-append bs cs, pow-suc 256 (length bs))
+    (omega (arith, mul-assoc 256 (256 ^ length bs) (leNumber cs), mul-comm 256 (256 ^ length bs)))
+
+-- eight bytes as two fours
+pub number-8 : (p : ℕ) (m : List ℕ) → p + 8 ≤ length m
+    → leNumber (readSpan p 8 m) ≡ leNumber (readSpan p 4 m) + 4294967296 * leNumber (readSpan (p + 4) 4 m)
+number-8 p m h =
+    rw (span-add p 4 4 m, number-append (readSpan p 4 m) (readSpan (p + 4) 4 m), length-span p 4 m (omega arith))
+
+-- the elements of a span of bytes are bytes
+pub span-bytes : (m : List ℕ) (p n : ℕ) → ((i : ℕ) → getD m i 0 < 256) → Bytes (readSpan p n m)
+unfolding readSpan
+span-bytes m p n f = taken-bytes n (drop p m) (dropped p m f)
+  where
+    dropped : (p : ℕ) (m : List ℕ) → ((i : ℕ) → getD m i 0 < 256) → (i : ℕ) → getD (drop p m) i 0 < 256
+    dropped p m f i = rw getD-drop (f (p + i))
+
+    taken-bytes : (n : ℕ) (l : List ℕ) → ((i : ℕ) → getD l i 0 < 256) → Bytes (take n l)
+    taken-bytes zero l f = tt
+    taken-bytes (suc n) [] f = tt
+    taken-bytes (suc n) (x ∷ l) f = (f 0, taken-bytes n l (λ i. f (suc i)))
