@@ -76,26 +76,31 @@ equal-end a b i h k = rw (drop-of-length-le a h, drop-of-length-le b k)
 -- ---- eight bytes as one number
 
 -- the span of eight from i in two lists of bytes, by its number
-pub span-same : (a b : List ℕ) (i : ℕ) → ((k : ℕ) → getD a k 0 < 256) → ((k : ℕ) → getD b k 0 < 256) → i + 8 ≤ length a → i + 8 ≤ length b
+pub span-same : (a b : List ℕ) (i : ℕ) → ((k : ℕ) → getD a k 0 < 256) → ((k : ℕ) → getD b k 0 < 256)
+    → i + 8 ≤ length a → i + 8 ≤ length b
     → leNumber (readSpan i 8 a) ≡ leNumber (readSpan i 8 b) → readSpan i 8 a ≡ readSpan i 8 b
 span-same a b i f g h k e =
     le-same (readSpan i 8 a) (readSpan i 8 b) (span-bytes a i 8 f) (span-bytes b i 8 g)
     (length-span i 8 a h ∙ sym (length-span i 8 b k)) e
 
 -- equal as far as i, and in the eight from j, which is i or before it: equal as far as those go
-pub eight-on : (a b : List ℕ) (i j : ℕ) → j ≤ i → take i a ≡ take i b → readSpan j 8 a ≡ readSpan j 8 b → take (j + 8) a ≡ take (j + 8) b
+pub eight-on : (a b : List ℕ) (i j : ℕ) → j ≤ i → take i a ≡ take i b → readSpan j 8 a ≡ readSpan j 8 b
+    → take (j + 8) a ≡ take (j + 8) b
 unfolding readSpan
 eight-on a b i j h p q =
     let s : take j a ≡ take j b = sym (take-take j i a h) ∙ ap (take j) p ∙ take-take j i b h in
     take-add j 8 a ∙ (λ k. s k ++ q k) ∙ sym (take-add j 8 b)
 
 -- the numbers differ: so do the lists
-pub eight-not : (a b : List ℕ) (i : ℕ) → (leNumber (readSpan i 8 a) ≡ leNumber (readSpan i 8 b) → ⊥) → equalBytes a b ≡ false
+pub eight-not : (a b : List ℕ) (i : ℕ) → (leNumber (readSpan i 8 a) ≡ leNumber (readSpan i 8 b) → ⊥)
+    → equalBytes a b ≡ false
 eight-not a b i h = equal-not a b (λ e. h (ap (λ (l : List ℕ). leNumber (readSpan i 8 l)) e))
 
 -- equal as far as i, and the last eight, which start there or before, have one number or not: that decides
-pub eight-last : (a b : List ℕ) (i j : ℕ) → ((k : ℕ) → getD a k 0 < 256) → ((k : ℕ) → getD b k 0 < 256) → j ≤ i → j + 8 ≡ length a → length a ≡ length b
-    → take i a ≡ take i b → (x y : ℕ) → x ≡ leNumber (readSpan j 8 a) → y ≡ leNumber (readSpan j 8 b) → eqb x y ≡ equalBytes a b
+pub eight-last : (a b : List ℕ) (i j : ℕ) → ((k : ℕ) → getD a k 0 < 256) → ((k : ℕ) → getD b k 0 < 256) → j ≤ i
+    → j + 8 ≡ length a → length a ≡ length b
+    → take i a ≡ take i b → (x y : ℕ) → x ≡ leNumber (readSpan j 8 a) → y ≡ leNumber (readSpan j 8 b)
+    → eqb x y ≡ equalBytes a b
 eight-last a b i j f g h l n p x y q r = go (eqb x y) refl
   where
     go : (t : Bool) → eqb x y ≡ t → eqb x y ≡ equalBytes a b

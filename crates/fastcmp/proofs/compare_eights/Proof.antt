@@ -29,7 +29,8 @@ returns : tie.Need-returns Inv-loop μ-loop
 returns c =
     let a = c .before .before .before .before .before .before .before .args in
     let i = c .before .before .before .before .loop .i in
-    sym (eight-not (a .left .now) (a .right .now) i (λ e. c .if1 .taken (c .before .before .get-u64 .ensures ∙ e ∙ sym (c .before .get-u642 .ensures))))
+    sym (eight-not (a .left .now) (a .right .now) i
+    (λ e. c .if1 .taken (c .before .before .get-u64 .ensures ∙ e ∙ sym (c .before .get-u642 .ensures))))
 
 add-i : tie.Need-add-i Inv-loop μ-loop
 add-i c = omega arith
@@ -43,7 +44,8 @@ loop-again c =
     let a = known .before .before .args in
     let l = c .before .before .before .before .loop in
     eight-on (a .left .now) (a .right .now) (l .i) (l .i) (omega arith) (l .inv)
-    (span-same (a .left .now) (a .right .now) (l .i) (λ k. known .before .shared-slice-known .given k .fits) (λ k. known .shared-slice-known2 .given k .fits) (omega arith) (omega arith)
+    (span-same (a .left .now) (a .right .now) (l .i) (λ k. known .before .shared-slice-known .given k .fits)
+    (λ k. known .shared-slice-known2 .given k .fits) (omega arith) (omega arith)
     (sym (c .before .before .get-u64 .ensures) ∙ c .if1 .left ∙ c .before .get-u642 .ensures))
 
 get-u64-requires-3 : tie.Need-get-u64-requires-3 Inv-loop μ-loop
@@ -57,8 +59,10 @@ returns-2 c =
     let known = c .before .before .before .before in
     let a = known .before .before .args in
     let l = c .before .before .before .loop in
-    eight-last (a .left .now) (a .right .now) (l .i) (length (a .left .now) - 8) (λ k. known .before .shared-slice-known .given k .fits) (λ k. known .shared-slice-known2 .given k .fits)
-    (omega arith) (omega arith) (omega arith) (l .inv) (c .before .get-u643 .result) (c .get-u644 .result) (c .before .get-u643 .ensures) (c .get-u644 .ensures)
+    eight-last (a .left .now) (a .right .now) (l .i) (length (a .left .now) - 8)
+    (λ k. known .before .shared-slice-known .given k .fits) (λ k. known .shared-slice-known2 .given k .fits)
+    (omega arith) (omega arith) (omega arith) (l .inv) (c .before .get-u643 .result) (c .get-u644 .result)
+    (c .before .get-u643 .ensures) (c .get-u644 .ensures)
 
 pub compare-eights-spec : {M : Type 1} → statement M
 compare-eights-spec =
