@@ -1,5 +1,5 @@
 -- What holds while the code's loops run, and what a turn of each does: the dry run, the append, the walk, the reading. Assumes nothing.
-use Prim.Native.Nat.{ℕ, _+_, _-_, _≤_, _<_, min}
+use Prim.Native.Nat.{ℕ, _+_, _-_, _*_, _≤_, _<_, min}
 use mathlib.Core.Path.{_≡_, refl, sym, ap, _∙_, subst}
 use mathlib.Core.Bool.{Bool, true, false, false≢true}
 use mathlib.Core.Option.{Option, none, some}
@@ -53,7 +53,7 @@ no-room (Refused n) k o = refl
 pub record Planning (len left₀ number₀ : ℕ) (a₀ : Arena) (left number : ℕ) (a : Arena) : Type 0 where
   pub rest : planned left₀ len a₀ number₀ left₀ ≡ planned left len a number left
   pub sense : sensible a len ≡ true
-  pub few : number ≤ numberLimit + endOf a
+  pub few : 2 * number ≤ 2 * numberLimit + endOf a
 
 -- the plan from the bytes that wait
 pub plan-left : (len : ℕ) (a : Arena) (h : Header) (n l : ℕ) → l ≡ n - h .remaining → planOf len a h n ≡ planned l len a (h .number) l
@@ -61,8 +61,8 @@ unfolding planOf
 plan-left len a h n l e = rw e
 
 -- a block taken leaves the arena sensible, and moves its end on
-plan-room : (len : ℕ) (a b : Arena) (number at : ℕ) → sensible a len ≡ true → number ≤ numberLimit + endOf a
-    → roomFor pageSize a len (blockSize (number + 1) + linkSize) ≡ At at b → (sensible b len ≡ true) × (number + 1 ≤ numberLimit + endOf b)
+plan-room : (len : ℕ) (a b : Arena) (number at : ℕ) → sensible a len ≡ true → 2 * number ≤ 2 * numberLimit + endOf a
+    → roomFor pageSize a len (blockSize (number + 1) + linkSize) ≡ At at b → (sensible b len ≡ true) × (2 * (number + 1) ≤ 2 * numberLimit + endOf b)
 plan-room len a b number at e h f =
     let s = sensible-facts a len e in
     let n = blockSize (number + 1) + linkSize in
@@ -71,14 +71,14 @@ plan-room len a b number at e h f =
     (room-sensible a len n at b z e f, omega (arith, r .above, r .end))
 
 -- the used end is within the lent memory, so a block number stays far below 2^32
-plan-few : (a : Arena) (len number : ℕ) → sensible a len ≡ true → number ≤ numberLimit + endOf a → number ≤ numberLimit + arenaLimit
+plan-few : (a : Arena) (len number : ℕ) → sensible a len ≡ true → 2 * number ≤ 2 * numberLimit + endOf a → 2 * number ≤ 2 * numberLimit + arenaLimit
 plan-few a len number e h =
     let s = sensible-facts a len e in
     let l : len ≤ arenaLimit = leb-true _ _ (s .short) in
     omega (arith, standing-facts pageSize a len (s .stands) .in-memory)
 
 module _ {len l₀ n₀ : ℕ} {a₀ : Arena} {l n : ℕ} {a : Arena} (p : Planning len l₀ n₀ a₀ l n a) where
-  pub planning-few : n ≤ numberLimit + arenaLimit
+  pub planning-few : 2 * n ≤ 2 * numberLimit + arenaLimit
   planning-few = plan-few a len n (p .sense) (p .few)
 
   pub planning-end : l ≡ 0 → planned l₀ len a₀ n₀ l₀ ≡ some a
@@ -137,7 +137,7 @@ pub record Extending (bs : List ℕ) (w₀ w : Writing) (i : ℕ) : Type 0 where
 
 module _ {bs : List ℕ} {w₀ w : Writing} {i : ℕ} (k : Extending bs w₀ w i) where
   -- a block number on the way, from a sound header
-  pub extending-few : w₀ .header .number ≤ numberLimit → w .header .number ≤ numberLimit + arenaLimit
+  pub extending-few : w₀ .header .number ≤ numberLimit → 2 * w .header .number ≤ 2 * numberLimit + arenaLimit
   extending-few l =
       plan-few (w .arena) (length (w .memory)) (w .header .number) (k .reached .working .sense) (omega (arith, k .reached .onward .end-up))
 

@@ -259,7 +259,7 @@ pub record Working (w : Writing) : Type 0 where
 pub record Onward (w v : Writing) : Type 0 where
   pub long : length (v .memory) ≡ length (w .memory)
   pub number-up : w .header .number ≤ v .header .number
-  pub end-up : v .header .number + endOf (w .arena) ≤ w .header .number + endOf (v .arena)
+  pub end-up : 2 * v .header .number + endOf (w .arena) ≤ 2 * w .header .number + endOf (v .arena)
   pub taken-up : takenBytes (blockCount (v .header)) + endOf (w .arena) ≤ takenBytes (blockCount (w .header)) + endOf (v .arena)
 
 pub onward-none : (w : Writing) → Onward w w
