@@ -10,7 +10,7 @@ sys.path.insert(0, os.path.dirname(os.path.abspath(__file__)))
 import report  # noqa: E402
 
 PAGE = 1048576
-ARENA = 67108864
+ARENA = 4293918720
 WORDS = 2 * 4194304
 NULL = 0xFFFFFFFF
 M = 0x5BD1E995

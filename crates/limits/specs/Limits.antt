@@ -10,7 +10,7 @@ pageSize = 1048576
 
 -- RULES A3. Pages of the longest arena.
 abbrev pub pageLimit : ℕ
-pageLimit = 64
+pageLimit = 4095
 
 -- RULES A3. And its bytes.
 abbrev pub arenaLimit : ℕ

@@ -12,7 +12,7 @@ pub const PAGE_SHIFT: u32 = 20;
 pub const PAGE_MASK: u32 = 1048575;
 
 // Bytes of the longest arena.
-pub const ARENA_LIMIT: usize = 67108864;
+pub const ARENA_LIMIT: usize = 4293918720;
 
 // Words of the longest table, two a bucket.
 pub const WORD_LIMIT: usize = 8388608;
