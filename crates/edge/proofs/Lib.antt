@@ -1,0 +1,2 @@
+-- `Laws`: of words told one behind the other.
+pub mod Laws
