@@ -62,7 +62,8 @@ plan-left len a h n l e = rw e
 
 -- a block taken leaves the arena sensible, and moves its end on
 plan-room : (len : ℕ) (a b : Arena) (number at : ℕ) → sensible a len ≡ true → 2 * number ≤ 2 * numberLimit + endOf a
-    → roomFor pageSize a len (blockSize (number + 1) + linkSize) ≡ At at b → (sensible b len ≡ true) × (2 * (number + 1) ≤ 2 * numberLimit + endOf b)
+    → roomFor pageSize a len (blockSize (number + 1) + linkSize) ≡ At at b
+    → (sensible b len ≡ true) × (2 * (number + 1) ≤ 2 * numberLimit + endOf b)
 plan-room len a b number at e h f =
     let s = sensible-facts a len e in
     let n = blockSize (number + 1) + linkSize in
@@ -71,7 +72,8 @@ plan-room len a b number at e h f =
     (room-sensible a len n at b z e f, omega (arith, r .above, r .end))
 
 -- the used end is within the lent memory, so a block number stays far below 2^32
-plan-few : (a : Arena) (len number : ℕ) → sensible a len ≡ true → 2 * number ≤ 2 * numberLimit + endOf a → 2 * number ≤ 2 * numberLimit + arenaLimit
+plan-few : (a : Arena) (len number : ℕ) → sensible a len ≡ true → 2 * number ≤ 2 * numberLimit + endOf a
+    → 2 * number ≤ 2 * numberLimit + arenaLimit
 plan-few a len number e h =
     let s = sensible-facts a len e in
     let l : len ≤ arenaLimit = leb-true _ _ (s .short) in

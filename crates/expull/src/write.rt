@@ -70,7 +70,10 @@ fn put_link(lists: &mut [u8], h: Header, at: u32) -> u32
 
 // Takes a block where nothing remains of the last. The plan has room for it, so the `else` is never run.
 fn ensure_capacity(lists: &mut [u8], w: Extended) -> Extended
-    requires { ⌜ (sensible (w .arena) (length (now lists)) ≡ true) × ((goodTail (w .arena) (w .header) ≡ true) × ((2 * w .header .number ≤ 2 * numberLimit + arenaLimit) × (isSome (planOf (length (now lists)) (w .arena) (w .header) 1) ≡ true))) ⌝ }
+    requires { ⌜ (sensible (w .arena) (length (now lists)) ≡ true)
+        × ((goodTail (w .arena) (w .header) ≡ true)
+        × ((2 * w .header .number ≤ 2 * numberLimit + arenaLimit)
+        × (isSome (planOf (length (now lists)) (w .arena) (w .header) 1) ≡ true))) ⌝ }
     ensures { λ r. ⌜ some (writing (now (lists .exit)) (r .arena) (r .header)) ≡ ready (writing (now (lists .entry)) (w .arena) (w .header)) ⌝ }
 {
     let h = w.header;

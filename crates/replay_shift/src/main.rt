@@ -3,8 +3,8 @@
 //
 // A script's bytes stand in the input as hex: for each append name length (2 bytes, little-endian), name, byte length
 // (4), bytes. It promises only that it ends and stays in bounds; what a replay leaves, crate replay promises. The file
-// stdout has the answers of oracle/replay.py. It uses memory_arena and store (for the state), replay, text, say, script,
-// bench_state, bench_areas, bench_read, and the kit's io.
+// stdout has the answers of oracle/replay.py. It uses memory_arena and store (for the state), replay, text, say,
+// script, bench_state, bench_areas, bench_read, and the kit's io.
 use script::lines;
 use script::rows;
 use store::Created;

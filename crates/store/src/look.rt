@@ -87,8 +87,9 @@ pub fn length(st: State, table: &[u32], keys: &[u8], lists: &[u8], name: &[u8]) 
     length_at(keys, at)
 }
 
-// A standing lane's reading, through its own record. All blocks are met before the output's length matters, and that before a byte is written.
-// Public for what goes over all lanes by listing: its record is known, and looking its name up again might find another.
+// A standing lane's reading, through its own record. All blocks are met before the output's length matters, and that
+// before a byte is written. Public for what goes over all lanes by listing: its record is known, and looking its name
+// up again might find another.
 pub fn read_at(
     st: State,
     table: &[u32],
