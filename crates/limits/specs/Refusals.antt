@@ -40,6 +40,18 @@ pub data Word : Type 0 where
   -- the bytes that hex stands for; no hex
   someBytes : Word
   noHex : Word
+  -- a lane's readings, how many; a part of a lane's bytes, how many; the numbers of a piece, how many
+  someReadings : Word
+  aPiece : Word
+  someNumbers : Word
+  -- a memory that is sound; a bucket and its fault; a key count that differs
+  sound : Word
+  aFault : Word
+  wrongCount : Word
+  -- a lane that stands in the flat store
+  standing : Word
+  -- how many lanes of a second store went across
+  lanesJoined : Word
 
 -- RULES X7. An answer: its word and the values it tells; or a refusal: its number, and the value told beside it where
 -- the paper tells one
@@ -71,6 +83,16 @@ pub data Asked : Type 0 where
   reporting : Asked
   unreporting : Asked
   unhexing : Asked
+  appendingReading : Asked
+  readingReadings : Asked
+  readingPiece : Asked
+  feedingPiece : Asked
+  checking : Asked
+  flatAppending : Asked
+  flatLookingUp : Asked
+  flatMeasuring : Asked
+  flatReading : Asked
+  joining : Asked
 
 -- RULES X3. The numbers of each call, in the order in which they are given.
 abbrev pub refusalNumbers : Asked → List ℕ
@@ -89,6 +111,16 @@ refusalNumbers countingKeys = 2 ∷ []
 refusalNumbers reporting = 2 ∷ 4 ∷ 8 ∷ []
 refusalNumbers unreporting = 15 ∷ []
 refusalNumbers unhexing = 8 ∷ []
+refusalNumbers appendingReading = 2 ∷ 3 ∷ 4 ∷ 5 ∷ 6 ∷ 7 ∷ []
+refusalNumbers readingReadings = 2 ∷ 3 ∷ 4 ∷ 8 ∷ 11 ∷ []
+refusalNumbers readingPiece = 2 ∷ 3 ∷ 4 ∷ 8 ∷ []
+refusalNumbers feedingPiece = 2 ∷ 8 ∷ 11 ∷ 12 ∷ []
+refusalNumbers checking = 2 ∷ 8 ∷ []
+refusalNumbers flatAppending = 2 ∷ 3 ∷ 13 ∷ 14 ∷ []
+refusalNumbers flatLookingUp = 2 ∷ 3 ∷ 4 ∷ []
+refusalNumbers flatMeasuring = 2 ∷ 3 ∷ 4 ∷ []
+refusalNumbers flatReading = 2 ∷ 3 ∷ 4 ∷ 8 ∷ []
+refusalNumbers joining = 2 ∷ 4 ∷ 8 ∷ 3 ∷ 5 ∷ 6 ∷ 7 ∷ []
 
 -- RULES X7. Whether a number is listed.
 abbrev pub isAmong : ℕ → List ℕ → Bool
