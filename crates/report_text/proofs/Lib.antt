@@ -4,4 +4,5 @@ pub mod Laws
 pub mod Words
 pub mod Forms
 pub mod Round
+pub mod Exact
 pub mod Promises

@@ -35,7 +35,7 @@ word-value [] v = refl
 word-value (c ∷ w) v = rw (eq-eqb c c refl) (word-value w v)
 
 -- a line in front of a text
-line-text : (w v t : List ℕ) → line w v ++ t ≡ (w ++ v) ++ (newline ∷ t)
+pub line-text : (w v t : List ℕ) → line w v ++ t ≡ (w ++ v) ++ (newline ∷ t)
 line-text w v t = simp append-assoc
 
 -- one line is read
@@ -107,7 +107,7 @@ plain-words =
 -- ---- a lane, and all of them
 
 -- the text of a lane in front of a text
-lane-text : (a : Lane) (t : List ℕ)
+pub lane-text : (a : Lane) (t : List ℕ)
     → laneText a ++ t ≡ line termWord
     (hex (a .name)) ++ (line lenWord (decimal (length (a .bytes))) ++ (line bytesWord (hex (a .bytes)) ++ t))
 unfolding laneText
