@@ -1,0 +1,4 @@
+pub mod Readings
+pub mod Said
+pub mod Promises
+pub mod Cases
