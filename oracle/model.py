@@ -55,6 +55,22 @@ def unvint(data):
     return None
 
 
+# ---- readings
+
+def signed(n):
+    """modulo 2^32, and taken as signed"""
+    n %= 2 ** 32
+    return n - 2 ** 32 if n >= 2 ** 31 else n
+
+
+def stored(d):
+    return -2 * d - 1 if d < 0 else 2 * d
+
+
+def unstored(u):
+    return u // 2 if u % 2 == 0 else -(u + 1) // 2
+
+
 # ---- arenas
 
 def capacity(length, page):
@@ -213,14 +229,38 @@ class Store:
             at = number(self.lists[at + size:at + size + 4])
         return out
 
-    def read(self, name, room):
-        v, b, head, tail, rem = self.header(self.lookup(name))
+    def lane(self, at):
+        """the bytes of the lane whose record is at a place"""
+        v, b, head, tail, rem = self.header(at)
         places = self.blocks(b, head, b - 2)
-        n = self.lane_length(b, rem)
-        if n > room:
-            raise Refused(8, n)
         whole = b"".join(bytes(self.lists[p:p + block_size(3 + i)]) for i, p in enumerate(places))
-        return whole[:n]
+        return whole[:self.lane_length(b, rem)]
+
+    def read(self, name, room):
+        lane = self.lane(self.lookup(name))
+        if len(lane) > room:
+            raise Refused(8, len(lane))
+        return lane
+
+    def readings(self, name, room):
+        lane = self.lane(self.lookup(name))
+        given, last, at, bad = [], 0, 0, None
+        while at < len(lane) and bad is None:
+            got = unvint(lane[at:])
+            if got is None:
+                bad = 11
+            else:
+                last = signed(last + unstored(got[0]))
+                given.append(last)
+                at += got[1]
+        if len(given) > room:
+            raise Refused(8, len(given))
+        if bad is not None:
+            raise Refused(bad, len(given))
+        return given
+
+    def drift(self, name, last, new):
+        self.append(name, vint(stored(signed(new - last))))
 
     def block(self, name, index):
         v, b, head, tail, rem = self.header(self.lookup(name))
@@ -257,11 +297,8 @@ class Store:
             if met is None:
                 return found
             i, at = met[0] + 1, met[1]
-            v, b, head, tail, rem = self.header(at)
-            places = self.blocks(b, head, b - 2)
-            whole = b"".join(bytes(self.lists[p:p + block_size(3 + k)]) for k, p in enumerate(places))
-            name = bytes(self.keys[at + 2:at + 2 + number(self.keys[at:at + 2])])
-            found.append((name, whole[:self.lane_length(b, rem)]))
+            lane = self.lane(at)
+            found.append((bytes(self.keys[at + 2:at + 2 + number(self.keys[at:at + 2])]), lane))
 
     def plan(self, b, rem, n):
         """addresses of the blocks that n bytes take, and the arena state after them"""
@@ -383,7 +420,9 @@ put PAGE USED LENGTH PLACE BYTES
 help
 report ROOM
 unreport BYTES
-report-lane BYTES INDEX""".split("\n")
+report-lane BYTES INDEX
+drift NAME LAST READING
+readings NAME ROOM""".split("\n")
 COMMANDS = {u.split()[0]: u for u in USAGE}
 HELP = """# a command to a line, words one space apart; an empty line and one that begins with # are passed over
 # NUMBERS are decimal
@@ -396,6 +435,14 @@ def num(w, top=2 ** 64 - 1):
     if not re.fullmatch("[0-9]+", w):
         raise Fault("not a number")
     if int(w) > top:
+        raise Fault("number too large")
+    return int(w)
+
+
+def signed_num(w):
+    if not re.fullmatch("-?[0-9]+", w):
+        raise Fault("not a number")
+    if not -2 ** 31 <= int(w) < 2 ** 31:
         raise Fault("number too large")
     return int(w)
 
@@ -602,6 +649,22 @@ class Bench:
         if lanes is None:
             return "refused 15 %d" % line
         return "lane %s %s" % tuple(map(shown, lanes[index])) if index < len(lanes) else "no such lane"
+
+    def drift(self, name, last, new):
+        self.st.drift(data(name), signed_num(last), signed_num(new))
+        return "accepted"
+
+    def readings(self, name, room):
+        name, room = data(name), num(room)
+        if room > 16384:
+            raise Fault("too many places: at most 16384")
+        try:
+            got = self.st.readings(name, room)
+            return " ".join(["readings %d" % len(got)] + ["%d" % r for r in got] + ["kept"])
+        except Absent:
+            return "absent kept"
+        except Refused as e:
+            return "refused %d%s kept" % (e.number, "" if e.told is None else " %d" % e.told)
 
     def help(self):
         return HELP + "\n" + "\n".join("# " + u for u in USAGE)

@@ -34,7 +34,8 @@ fn create(st: State, line: &[u8], table: &mut [u32], keys: &[u8], lists: &[u8]) 
     say_created(made, st)
 }
 
-fn say_appended(a: Appended) -> State {
+// An append's answer: the state afterwards.
+pub fn say_appended(a: Appended) -> State {
     match a {
         Appended::Accepted(next) => {
             say::line(b"accepted");

@@ -172,6 +172,7 @@ pub fn fault(n: u32) {
 ? no such field
 ? no such memory: at most 131072 words, 2097152 and 3145728 bytes
 ? line too long
-? unknown command";
+? unknown command
+? too many places: at most 16384";
     line(text::scan::part(rows, n as usize, b'\n'));
 }

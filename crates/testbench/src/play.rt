@@ -66,12 +66,16 @@ fn play(
     lists: &mut [u8],
     name: &mut [u8],
     output: &mut [u8],
+    places: &mut [i32],
 ) -> State {
     if k / 10 == 1 {
         return bench_write::play(k, st, line, table, keys, lists, name, output);
     }
     if k / 10 == 3 {
         return bench_state::play(k, st, line);
+    }
+    if k / 10 == 7 {
+        return bench_readings::play(k, st, line, table, keys, lists, name, places);
     }
     play_same(k, st, line, table, keys, lists, name, output);
     st
@@ -93,6 +97,7 @@ fn play_lent(
     lists: &mut [u8],
     name: &mut [u8],
     output: &mut [u8],
+    places: &mut [i32],
 ) -> Bench {
     let st = b.st;
     let words = text::least(b.words, table.len());
@@ -107,6 +112,7 @@ fn play_lent(
         &mut lists[0..list_bytes],
         name,
         output,
+        places,
     );
     with_state(b, next)
 }
@@ -121,6 +127,7 @@ fn play_line(
     lists: &mut [u8],
     name: &mut [u8],
     output: &mut [u8],
+    places: &mut [i32],
 ) -> Bench {
     let k = commands::number_of(line, is_long);
     if k == 0 {
@@ -130,7 +137,7 @@ fn play_line(
     if k == 1 {
         return lend(b, line, table, keys, lists);
     }
-    play_lent(b, k, line, table, keys, lists, name, output)
+    play_lent(b, k, line, table, keys, lists, name, output, places)
 }
 
 // Plays all of standard input.
@@ -142,6 +149,7 @@ fn play_input(
     lists: &mut [u8],
     name: &mut [u8],
     output: &mut [u8],
+    places: &mut [i32],
 ) {
     let mut bench = fresh();
     let mut lines = lines::all();
@@ -156,6 +164,7 @@ fn play_input(
             lists,
             name,
             output,
+            places,
         );
     }
 }
@@ -167,8 +176,18 @@ pub fn run(
     lists: &mut [u8; 3145728],
     name: &mut [u8; 262144],
     output: &mut [u8; 1048576],
+    places: &mut [i32; 16384],
 ) {
     let mut chunk = io::large_buffer();
     let mut line = io::large_buffer();
-    play_input(&mut chunk, &mut line, table, keys, lists, name, output);
+    play_input(
+        &mut chunk,
+        &mut line,
+        table,
+        keys,
+        lists,
+        name,
+        output,
+        places,
+    );
 }

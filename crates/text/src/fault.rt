@@ -21,6 +21,8 @@ pub const LINE_TOO_LONG: u32 = 10;
 
 pub const UNKNOWN: u32 = 11;
 
+pub const TOO_MANY_PLACES: u32 = 12;
+
 // The first of two faults, 0 where there is none.
 pub fn first(a: u32, b: u32) -> u32 {
     if a != 0 {
