@@ -4,7 +4,7 @@
 // again. The code takes the bytes as they come, a block at a time: it holds those of a vint until its last, and asks
 // the reader then; so vints may lie across blocks. specs/Run.antt says what a byte does, and proofs/Came.antt that all
 // together come to what specs/Readings.antt says. take_bytes has a `requires`: it is an inner function of the crate
-// readings. It uses limits, vint and signed.
+// readings. It uses limits, vint and signed, and numbers in proofs alone.
 use vint::Unvint;
 ghost use mathlib.Core.Path.{_≡_};
 ghost use Prim.Native.Nat.{_+_, _≤_, _<_, _^_};

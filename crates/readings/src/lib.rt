@@ -4,7 +4,8 @@
 // vint, with an append's refusals; reading back gives the readings that the lane's bytes make, or refuses by 2, 3, 4,
 // then 8, then by the vint reader's number, and a refusal leaves every place of the output as it was. 8 and the vint
 // reader's number tell the count of whole readings. specs/Readings.antt is that. The lane's bytes are gone over twice,
-// to count and to write. It uses limits, spans, expull, vint, signed, reading_run and store.
+// to count and to write. It uses limits, numbers, spans, vint, signed, reading_run, memory_arena, shared_arena_hashmap,
+// expull and store.
 use expull::Header;
 use memory_arena::Arena;
 use reading_run::Run;
