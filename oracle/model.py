@@ -47,12 +47,16 @@ def vint(n):
 
 
 def unvint(data):
+    """the number and the bytes taken; or 11 without an end, 12 for a fifth group above 15 or an empty last one"""
     total = 0
     for i, b in enumerate(data[:5]):
-        total += (b & 127) << (7 * i)
+        group = b & 127
+        total += group << (7 * i)
         if b & 128:
-            return total % 2 ** 32, i + 1
-    return None
+            if (i == 4 and group > 15) or (i > 0 and group == 0):
+                raise Refused(12)
+            return total, i + 1
+    raise Refused(11)
 
 
 # ---- readings
@@ -585,10 +589,7 @@ class Bench:
         return "vint " + shown(vint(num(n, NULL)))
 
     def unvint(self, b):
-        got = unvint(data(b))
-        if got is None:
-            raise Refused(11)
-        return "number %d taken %d" % got
+        return "number %d taken %d" % unvint(data(b))
 
     def equal(self, a, b):
         return "equal" if data(a) == data(b) else "different"

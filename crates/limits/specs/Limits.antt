@@ -60,6 +60,10 @@ linkSize = 4
 abbrev pub vintLimit : ℕ
 vintLimit = 5
 
+-- RULES K4. The highest group that a fifth byte may have.
+abbrev pub fifthLimit : ℕ
+fifthLimit = 15
+
 -- RULES AA3. Digits of a report's longest decimal.
 abbrev pub digitLimit : ℕ
 digitLimit = 18

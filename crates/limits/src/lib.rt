@@ -38,5 +38,8 @@ pub const LINK: usize = 4;
 // Bytes of the longest vint.
 pub const VINT_LIMIT: usize = 5;
 
+// The highest group that a vint's fifth byte may have.
+pub const FIFTH_LIMIT: u8 = 15;
+
 // Digits of a report's longest decimal.
 pub const DIGIT_LIMIT: usize = 18;

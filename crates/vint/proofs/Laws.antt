@@ -16,12 +16,12 @@ use Rattle.numbers.proofs.Tests.{both}
 use Rattle.limits.specs.Refusals.{unvinting, permitted}
 use Rattle.limits.specs.Limits.{vintLimit}
 use Rattle.vint.specs.declared.Unvint.{Unvint}
-use Rattle.vint.specs.declared.Unvint.the-variants.{Number}
-use Rattle.vint.specs.Vint.{vintBytes, writeVint, TopOnLast, Taken, ended, unended, grouped, takeVint, answerOf}
-use Rattle.vint.specs.Vint.{readVint, saidUnvint}
+use Rattle.vint.specs.declared.Unvint.the-variants.{Number, Refused}
+use Rattle.vint.specs.Vint.{vintBytes, writeVint, TopOnLast, Taken, ended, unended, grouped, takeVint}
+use Rattle.vint.specs.Vint.{lastGroup, isAnotherForm, answerOf, readVint, saidUnvint}
 
 -- a number is below another or not
-below-or : (n k : ℕ) → (n < k) ⊎ (k ≤ n)
+pub below-or : (n k : ℕ) → (n < k) ⊎ (k ≤ n)
 below-or n k = go (ltb n k) refl
   where
     go : (t : Bool) → ltb n k ≡ t → (n < k) ⊎ (k ≤ n)
@@ -30,33 +30,33 @@ below-or n k = go (ltb n k) refl
 
 -- ---- a step of each definition, by its test
 
-write-last : (w n : ℕ) → n < 128 → vintBytes (suc w) n ≡ (n + 128) ∷ []
+pub write-last : (w n : ℕ) → n < 128 → vintBytes (suc w) n ≡ (n + 128) ∷ []
 unfolding vintBytes
 write-last w n h = rw (lt-ltb n 128 h)
 
-write-on : (w n : ℕ) → 128 ≤ n → vintBytes (suc w) n ≡ n % 128 ∷ vintBytes w (n / 128)
+pub write-on : (w n : ℕ) → 128 ≤ n → vintBytes (suc w) n ≡ n % 128 ∷ vintBytes w (n / 128)
 unfolding vintBytes
 write-on w n h = rw (le-ltb n 128 h)
 
-take-last : (w b : ℕ) (bs : List ℕ) → 128 ≤ b → takeVint (suc w) (b ∷ bs) ≡ ended (b - 128) 1
+pub take-last : (w b : ℕ) (bs : List ℕ) → 128 ≤ b → takeVint (suc w) (b ∷ bs) ≡ ended (b - 128) 1
 unfolding takeVint
 take-last w b bs h = rw (le-leb 128 b h)
 
-take-on : (w b : ℕ) (bs : List ℕ) → b < 128 → takeVint (suc w) (b ∷ bs) ≡ grouped b (takeVint w bs)
+pub take-on : (w b : ℕ) (bs : List ℕ) → b < 128 → takeVint (suc w) (b ∷ bs) ≡ grouped b (takeVint w bs)
 unfolding takeVint
 take-on w b bs h = rw (lt-leb 128 b h)
 
-take-none : (bs : List ℕ) → takeVint zero bs ≡ unended
+pub take-none : (bs : List ℕ) → takeVint zero bs ≡ unended
 unfolding takeVint
 take-none bs = refl
 
-take-nothing : (w : ℕ) → takeVint w [] ≡ unended
+pub take-nothing : (w : ℕ) → takeVint w [] ≡ unended
 unfolding takeVint
 take-nothing zero = refl
 take-nothing (suc w) = refl
 
 -- a number in reach of some bytes, less its lowest group, is in reach of one fewer; one with a second group wants a second byte
-reach : (w n : ℕ) → n < 128 ^ suc w → n / 128 < 128 ^ w
+pub reach : (w n : ℕ) → n < 128 ^ suc w → n / 128 < 128 ^ w
 reach w n h = let k : n < 128 ^ w * 128 = rw pow-suc at h in omega arith
 
 second : (w n : ℕ) → n < 128 ^ w → 128 ≤ n → 2 ≤ w
@@ -66,7 +66,7 @@ second (suc (suc w)) n h k = omega arith
 
 -- ---- the writer's bytes
 
-length-most : (w n : ℕ) → length (vintBytes w n) ≤ w
+pub length-most : (w n : ℕ) → length (vintBytes w n) ≤ w
 unfolding vintBytes
 length-most zero n = omega arith
 length-most (suc w) n = go (ltb n 128) (length-most w (n / 128))
@@ -127,10 +127,6 @@ take-back (suc w) n rest h =
     ∙ ap (λ (v : ℕ). ended v (suc (length (vintBytes (suc w) (n / 128))))) (omega arith)))
     (below-or n 128)
 
--- a number written as a vint reads back as itself, whatever follows, and takes the bytes written
-pub read-back : (n : ℕ) (rest : List ℕ) → n < 2 ^ 32 → readVint (writeVint n ++ rest) ≡ Number n (length (writeVint n))
-read-back n rest h = rw (take-back 4 n rest (omega arith)) (ap (λ (v : ℕ). Number v (length (writeVint n))) (omega arith))
-
 -- ---- what is taken
 
 -- a vint at the front of bytes: its sum and the bytes taken, group by group
@@ -174,16 +170,10 @@ fewest-taken n h (took-on {w} b t) l =
     (λ (k : 128 ≤ n). rw (write-on w n k) (omega (arith, fewest-taken (n / 128) (h .1) t (omega arith))))
     (below-or n 128)
 
--- so no accepted form of a number has fewer bytes than the written one
-pub fewest : (bs : List ℕ) (n k : ℕ) → Bytes bs → readVint bs ≡ Number n k → length (writeVint n) ≤ k
-fewest bs n k h e = go (takeVint vintLimit bs) refl e
-  where
-    go : (t : Taken) → takeVint vintLimit bs ≡ t → answerOf t ≡ Number n k → length (writeVint n) ≤ k
-    go (ended v j) f e =
-        let x : v % 2 ^ 32 ≡ n = cc in
-        let y : j ≡ k = cc in
-        rw (← y) (fewest-taken n h (took vintLimit bs v j f) (omega arith))
-    go unended f e = let z : _≡_ {A = ℕ} 0 1 = cc in absurd (omega arith)
+-- so no vint whose groups make a number, or make it modulo 2^32, has fewer bytes than the written one
+pub fewest : (bs : List ℕ) (v k : ℕ) → Bytes bs → takeVint vintLimit bs ≡ ended v k
+    → length (writeVint (v % 2 ^ 32)) ≤ k
+fewest bs v k h e = fewest-taken (v % 2 ^ 32) h (took vintLimit bs v k e) (omega arith)
 
 -- ---- the writer's loop
 
@@ -275,6 +265,11 @@ reading-starts w bs =
     nothing (ended v k) = let x : v ≡ 0 + 1 * v = omega arith in let y : k ≡ 0 + k = omega arith in λ i. ended (x i) (y i)
     nothing unended = refl
 
+-- what `answered` asks: the groups before the last make less than one of its units
+abbrev pub LastByte : ℕ → ℕ → ℕ → ℕ → Type 0
+LastByte sum unit group taken =
+    (1 ≤ taken) × ((taken ≤ 5) × ((unit ≡ 128 ^ (taken - 1)) × ((sum < unit) × (group < 128))))
+
 module _ {w : ℕ} {bs : List ℕ} {sum unit at : ℕ} (h : Reading w bs sum unit at) where
   -- the next group's unit, while one more byte may be taken
   pub unit-most : at < w → unit ≤ 128 ^ (w - 1)
@@ -298,6 +293,12 @@ module _ {w : ℕ} {bs : List ℕ} {sum unit at : ℕ} (h : Reading w bs sum uni
             ∙ behind-grouped sum unit at b (takeVint (w - suc at) (drop (suc at) bs));
       }
 
+  pub last-byte : at < w → w ≤ 5 → 128 ≤ getD bs at 0 → getD bs at 0 < 256
+      → LastByte sum unit (getD bs at 0 - 128) (at + 1)
+  last-byte i f k b =
+      let e : at + 1 - 1 ≡ at = omega arith in
+      (omega arith, (omega arith, (rw e (h .unit-is), (h .small, omega arith))))
+
   pub reading-last : at < w → at < length bs → 128 ≤ getD bs at 0 → takeVint w bs ≡ ended (sum + unit * (getD bs at 0 - 128)) (suc at)
   reading-last i j k =
       h .whole
@@ -316,8 +317,13 @@ module _ {w : ℕ} {bs : List ℕ} {sum unit at : ℕ} (h : Reading w bs sum uni
 -- what the loop found is the reader's answer, and a refusal is a listed one
 pub answers : (bs : List ℕ) (t : Taken) (r : Unvint) → takeVint vintLimit bs ≡ t → r ≡ answerOf t
     → (r ≡ readVint bs) × (permitted unvinting (saidUnvint r) ≡ true)
+unfolding answerOf
 answers bs t r e f = (f ∙ sym (ap answerOf e), rw f (known t))
   where
+    either : (c : Bool) (v k : ℕ) → permitted unvinting (saidUnvint (cond c (Refused 12) (Number v k))) ≡ true
+    either true v k = refl
+    either false v k = refl
+
     known : (t : Taken) → permitted unvinting (saidUnvint (answerOf t)) ≡ true
-    known (ended v k) = refl
+    known (ended v k) = either (isAnotherForm k (lastGroup v k)) v k
     known unended = refl

@@ -1,13 +1,13 @@
 -- RULES K. Document 01, "Hash and vint": a vint is seven bits a byte, low group first, the top bit (128) set on the
--- last byte only. What is taken from bytes and what that answers are two definitions: a rule on which vints are
--- accepted changes the second alone.
+-- last byte only. Document 02, Five: which of them are accepted. What is taken from bytes and what that answers are two
+-- definitions: a rule on which vints are accepted changes the second alone.
 use Prim.Native.Nat.{ℕ, zero, suc, _+_, _-_, _*_, _/_, _%_, _^_, _≤_, _<_}
 use mathlib.Core.Path.{_≡_, refl}
-use mathlib.Core.Bool.{cond}
+use mathlib.Core.Bool.{Bool, cond, _&&_, _||_}
 use mathlib.Core.List.{List, [], _∷_, _++_}
-use lib.Dec.{leb, ltb}
+use lib.Dec.{leb, ltb, eqb}
 use lib.ListN.{length, replicate}
-use Rattle.limits.specs.Limits.{vintLimit}
+use Rattle.limits.specs.Limits.{vintLimit, fifthLimit}
 use Rattle.limits.specs.Refusals.{Said, answered, refused, aNumber, one-outcome}
 use Rattle.vint.specs.declared.Vint.{Vint}
 use Rattle.vint.specs.declared.Unvint.{Unvint}
@@ -52,14 +52,27 @@ takeVint zero bs = unended
 takeVint (suc w) [] = unended
 takeVint (suc w) (b ∷ bs) = cond (leb 128 b) (ended (b - 128) 1) (grouped b (takeVint w bs))
 
--- RULES K4. The sum modulo 2^32 and the bytes taken; without an end, refusal 11.
-abbrev pub answerOf : Taken → Unvint
-answerOf (ended v k) = Number (v % 2 ^ 32) k
+-- RULES K4. The last group of a vint of k bytes with the sum v.
+abbrev pub lastGroup : ℕ → ℕ → ℕ
+lastGroup v k = v / 128 ^ (k - 1)
+
+-- RULES K4. "A fifth byte whose group is above 15", and "a vint of two or more bytes whose last group is 0": of k bytes
+-- with the last group g.
+abbrev pub isAnotherForm : ℕ → ℕ → Bool
+isAnotherForm k g = (eqb k vintLimit && ltb fifthLimit g) || (leb 2 k && eqb g 0)
+
+-- RULES K4. The sum and the bytes taken; 12 where it isn't its number's one form; without an end, 11.
+unfoldable pub answerOf : Taken → Unvint
+answerOf (ended v k) = cond (isAnotherForm k (lastGroup v k)) (Refused 12) (Number v k)
 answerOf unended = Refused 11
 
 -- RULES K4. Of at most five bytes.
 abbrev pub readVint : List ℕ → Unvint
 readVint bs = answerOf (takeVint vintLimit bs)
+
+-- RULES K6. Bytes that are a number's accepted form: the reader takes them all and answers the number.
+abbrev pub AcceptedFor : ℕ → List ℕ → Type 0
+AcceptedFor n bs = readVint bs ≡ Number n (length bs)
 
 -- RULES X7. What the reader's answer says.
 abbrev pub saidUnvint : Unvint → Said
@@ -68,9 +81,14 @@ saidUnvint (Refused n) = refused n []
 
 -- RULES X7. A row a case: what the call says then.
 pub said-cases : (saidUnvint (readVint (0x2C ∷ 0x82 ∷ [])) ≡ answered aNumber (300 ∷ 2 ∷ []))
+    × (saidUnvint (readVint (0x7F ∷ 0x7F ∷ 0x7F ∷ 0x7F ∷ 0x8F ∷ [])) ≡ answered aNumber (4294967295 ∷ 5 ∷ []))
+    × (saidUnvint (readVint (0x80 ∷ [])) ≡ answered aNumber (0 ∷ 1 ∷ []))
     × (saidUnvint (readVint (0x2C ∷ [])) ≡ refused 11 [])
-unfolding takeVint
-said-cases = (refl, refl)
+    × (saidUnvint (readVint (0x00 ∷ 0x00 ∷ 0x00 ∷ 0x00 ∷ 0x10 ∷ [])) ≡ refused 11 [])
+    × (saidUnvint (readVint (0x7F ∷ 0x7F ∷ 0x7F ∷ 0x7F ∷ 0x90 ∷ [])) ≡ refused 12 [])
+    × (saidUnvint (readVint (0x2C ∷ 0x80 ∷ [])) ≡ refused 12 [])
+unfolding takeVint answerOf
+said-cases = (refl, refl, refl, refl, refl, refl, refl)
 
 -- RULES X8. The promises permit one outcome each.
 pub vint-settled : (n : ℕ) {x y : Vint} → x ≡ vintOf n → y ≡ vintOf n → x ≡ y

@@ -1,13 +1,15 @@
-// Vints: numbers in seven bits a byte, low group first, the top bit set on the last byte only (document 01, "Hash and vint").
+// Vints: numbers in seven bits a byte, low group first, the top bit set on the last byte only (document 01, "Hash and
+// vint").
 //
-// It promises that a number is written in the fewest bytes, 1 to 5, and that the reader answers the groups' sum modulo 2^32 and the
-// bytes taken, or refusal 11, for all bytes. specs/Vint.antt says what that means, and proofs/Laws.antt proves that a written number
-// reads back as itself and that no accepted form of it is shorter. It uses limits and numbers, in contracts and proofs alone.
+// It promises that a number is written in the fewest bytes, 1 to 5, and that the reader, for all bytes, answers the
+// number and the bytes taken, or refusal 11 without an end, or 12 for a form that the writer doesn't write (document
+// 02, Five). specs/Vint.antt says what that means, and specs/Promises.antt what is proved of both: each number has
+// exactly one accepted form, the written one. It uses limits, and numbers in contracts and proofs alone.
 ghost use mathlib.Core.Path.{_≡_};
 ghost use mathlib.Core.Bool.{true};
-ghost use Prim.Native.Nat.{_+_, _*_, _%_, _^_, _≤_, _<_};
+ghost use Prim.Native.Nat.{_+_, _-_, _*_, _%_, _^_, _≤_, _<_};
 ghost use Rattle.limits.specs.Refusals.{unvinting, permitted};
-ghost use Rattle.vint.specs.Vint.{vintOf, ended, answerOf, readVint, saidUnvint};
+ghost use Rattle.vint.specs.Vint.{vintOf, ended, isAnotherForm, answerOf, readVint, saidUnvint};
 
 // A vint by value: its bytes, zeros after them, and how many they are.
 pub struct Vint {
@@ -61,11 +63,25 @@ fn plus(sum: u64, unit: u64, group: u8) -> u64
     sum + unit * (group as u64)
 }
 
-// What a vint's groups' sum and the bytes taken for it answer.
-fn answered(sum: u64, taken: usize) -> Unvint
-    ensures { λ r. ⌜ r ≡ answerOf (ended sum taken) ⌝ }
+// Whether a vint of so many bytes isn't its number's one form, by its last group.
+fn is_another_form(taken: usize, group: u8) -> bool
+    ensures { λ r. ⌜ r ≡ isAnotherForm taken group ⌝ }
 {
-    Unvint::Number((sum % 4294967296) as u32, taken)
+    let high = (taken == limits::VINT_LIMIT) & (limits::FIFTH_LIMIT < group);
+    let empty = (2 <= taken) & (group == 0);
+    high | empty
+}
+
+// What a vint answers: by its last group, which stands for that many units, the sum before it and the bytes taken.
+fn answered(sum: u64, unit: u64, group: u8, taken: usize) -> Unvint
+    requires { ⌜ (1 ≤ taken) × ((taken ≤ 5) × ((unit ≡ 128 ^ (taken - 1)) × ((sum < unit) × (group < 128)))) ⌝ }
+    ensures { λ r. ⌜ r ≡ answerOf (ended (sum + unit * group) taken) ⌝ }
+{
+    if is_another_form(taken, group) {
+        return Unvint::Refused(12);
+    }
+    let number = plus(sum, unit, group);
+    Unvint::Number(number as u32, taken)
 }
 
 // The number that bytes begin with, as a vint.
@@ -79,7 +95,7 @@ pub fn read_u32_vint(bytes: &[u8]) -> Unvint
     while (at < limits::VINT_LIMIT) & (at < bytes.len()) {
         let b = bytes[at];
         if 128 <= b {
-            return answered(plus(sum, unit, b - 128), at + 1);
+            return answered(sum, unit, b - 128, at + 1);
         }
         sum = plus(sum, unit, b);
         unit = unit * 128;
