@@ -250,13 +250,14 @@ class Store:
         lane = self.lane(self.lookup(name))
         given, last, at, bad = [], 0, 0, None
         while at < len(lane) and bad is None:
-            got = unvint(lane[at:])
-            if got is None:
-                bad = 11
+            try:
+                number, taken = unvint(lane[at:])
+            except Refused as e:
+                bad = e.number
             else:
-                last = signed(last + unstored(got[0]))
+                last = signed(last + unstored(number))
                 given.append(last)
-                at += got[1]
+                at += taken
         if len(given) > room:
             raise Refused(8, len(given))
         if bad is not None:

@@ -8,7 +8,8 @@ use lib.ListN.{length, length-append}
 use lib.IntN.{ℤ, pos}
 use Rattle.vint.specs.declared.Unvint.{Unvint}
 use Rattle.vint.specs.Vint.{writeVint}
-use Rattle.vint.proofs.Laws.{vint-length, read-back}
+use Rattle.vint.proofs.Laws.{vint-length}
+use Rattle.vint.proofs.Forms.{read-back}
 use Rattle.signed.specs.Signed.{Signed32, difference, following, stored}
 use Rattle.signed.proofs.Laws.{stored-fits, difference-fits, following-stored}
 use Rattle.reading_run.specs.Readings.{readingBytes, readingsBytes, AllSigned, split, inFront, onVint, splitUp}

@@ -1,7 +1,7 @@
 -- Bytes split into vints, one step at a time; and what is asked of the vint reader here. Assumes nothing.
 use Prim.Native.Nat.{ℕ, zero, suc, _≤_}
 use mathlib.Core.Path.{_≡_, refl, subst}
-use mathlib.Core.Bool.{Bool, true, false, false≢true, _||_}
+use mathlib.Core.Bool.{Bool, true, false, cond, false≢true, _||_}
 use mathlib.Core.List.{List, [], _∷_, _++_}
 use native.Mathlib.Omega.{arith}
 use lib.Dec.{eqb}
@@ -10,7 +10,7 @@ use Rattle.limits.specs.Limits.{vintLimit}
 use Rattle.limits.specs.Refusals.{unvinting, refusalNumbers, isAmong, permitted}
 use Rattle.vint.specs.declared.Unvint.{Unvint}
 use Rattle.vint.specs.declared.Unvint.the-variants.{Number, Refused}
-use Rattle.vint.specs.Vint.{ended, takeVint, answerOf, readVint, saidUnvint}
+use Rattle.vint.specs.Vint.{ended, takeVint, lastGroup, isAnotherForm, answerOf, readVint, saidUnvint}
 use Rattle.vint.proofs.Laws.{answers}
 use Rattle.reading_run.specs.Readings.{split, onVint, splitUp, vintsOf}
 
@@ -51,7 +51,12 @@ among-front n (m ∷ ms) ns e = go (eqb n m) (among-front n ms ns) e
 
 -- the count that goes with a number is that of the bytes taken
 pub counted : (v k u j : ℕ) → answerOf (ended v k) ≡ Number u j → j ≡ k
-counted v k u j e = cc
+unfolding answerOf
+counted v k u j e = go (isAnotherForm k (lastGroup v k)) e
+  where
+    go : (t : Bool) → cond t (Refused 12) (Number v k) ≡ Number u j → j ≡ k
+    go true e = let z : _≡_ {A = ℕ} 0 1 = cc in absurd (omega arith)
+    go false e = cc
 
 -- a refusal's number is a listed one
 pub refusal-listed : (xs : List ℕ) (n : ℕ) → readVint xs ≡ Refused n → isAmong n (refusalNumbers unvinting) ≡ true

@@ -75,7 +75,7 @@ onWhole (Refused n) rest = split [] n
 
 -- bytes behind held ones
 unfoldable pub spread : List ℕ → List ℕ → Split
-unfolding takeVint
+unfolding takeVint answerOf
 spread h [] = split [] (cond (eqb (length h) 0) 0 11)
 spread h (b ∷ bs) =
     cond (ltb b 128 && ltb (length h + 1) vintLimit) (spread (h ++ (b ∷ [])) bs)
@@ -118,6 +118,7 @@ module _ (f : ℕ) (h : List ℕ) (b : ℕ) (bs : List ℕ) (n : NoTop h) (l : l
       ∙ sym (ap (λ (u : Taken). onWhole (answerOf u) (splitUp f bs)) q)
 
   overruns : b < 128 → vintLimit ≤ length h + 1 → splitUp (suc f) (h ++ (b ∷ bs)) ≡ onWhole (readVint xs) (splitUp f bs)
+  unfolding answerOf
   overruns t e =
       let p : takeVint vintLimit (h ++ (b ∷ bs)) ≡ unended =
       subst (λ (ys : List ℕ). takeVint vintLimit ys ≡ unended) (snoc-on h b bs)
@@ -130,7 +131,7 @@ module _ (f : ℕ) (h : List ℕ) (b : ℕ) (bs : List ℕ) (n : NoTop h) (l : l
 -- BYTE BY BYTE AS BY THE READER
 spread-is : (f : ℕ) (h bs : List ℕ) → NoTop h → length h < vintLimit → length h + length bs ≤ f
     → spread h bs ≡ splitUp f (h ++ bs)
-unfolding spread
+unfolding spread answerOf
 spread-is f [] [] n l k = sym (split-none f)
 spread-is zero (x ∷ h) [] n l k = absurd (omega arith)
 spread-is (suc f) (x ∷ h) [] n l k =

@@ -6,7 +6,7 @@ use lib.ListN.{length, drop}
 use lib.IntN.{ℤ, pos}
 use Rattle.vint.specs.declared.Unvint.{Unvint}
 use Rattle.vint.specs.declared.Unvint.the-variants.{Number, Refused}
-use Rattle.vint.specs.Vint.{writeVint, takeVint, readVint}
+use Rattle.vint.specs.Vint.{writeVint, takeVint, answerOf, readVint}
 use Rattle.signed.specs.Signed.{Signed32, difference, following, stored, unstored}
 
 -- ---- written
@@ -48,7 +48,7 @@ onVint (Refused n) bs rest = split [] n
 
 -- RULES AB5. At most f vints, one after the other.
 unfoldable pub splitUp : ℕ → List ℕ → Split
-unfolding takeVint
+unfolding takeVint answerOf
 splitUp zero bs = split [] 0
 splitUp (suc f) [] = split [] 0
 splitUp (suc f) (b ∷ bs) = onVint (readVint (b ∷ bs)) (b ∷ bs) (λ rest. splitUp f rest)

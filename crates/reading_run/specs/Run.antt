@@ -9,7 +9,7 @@ use lib.IntN.{ℤ, pos}
 use Rattle.limits.specs.Limits.{vintLimit}
 use Rattle.vint.specs.declared.Unvint.{Unvint}
 use Rattle.vint.specs.declared.Unvint.the-variants.{Number, Refused}
-use Rattle.vint.specs.Vint.{takeVint, readVint}
+use Rattle.vint.specs.Vint.{takeVint, answerOf, readVint}
 use Rattle.signed.specs.Signed.{following, unstored}
 use Rattle.reading_run.specs.declared.Run.{Run}
 
@@ -47,7 +47,7 @@ holding s b = runWith (set (s .held) (s .count) b) (s .count + 1) (s .last) (s .
 
 -- RULES AB12. One with the top bit, or a fifth, ends it. After a refusal no byte matters.
 unfoldable pub turnOf : Run → ℕ → List ℤ → Out
-unfolding takeVint
+unfolding takeVint answerOf
 turnOf s b o =
     cond (eqb (s .fault) 0)
     (cond (ltb b 128 && ltb (s .count + 1) vintLimit) (out (holding s b) o)
