@@ -64,6 +64,14 @@ vintLimit = 5
 abbrev pub fifthLimit : ℕ
 fifthLimit = 15
 
+-- RULES AC1. Bytes of a cut vint that may be held between pieces.
+abbrev pub heldLimit : ℕ
+heldLimit = 4
+
+-- RULES AC1. Bytes that a number reader may be fed in all.
+abbrev pub fedLimit : ℕ
+fedLimit = 4294967295
+
 -- RULES AA3. Digits of a report's longest decimal.
 abbrev pub digitLimit : ℕ
 digitLimit = 18

@@ -41,5 +41,10 @@ pub const VINT_LIMIT: usize = 5;
 // The highest group that a vint's fifth byte may have.
 pub const FIFTH_LIMIT: u8 = 15;
 
+// Bytes of a cut vint that may be held between pieces, and bytes that a number reader may be fed in all.
+pub const HELD_LIMIT: usize = 4;
+
+pub const FED_LIMIT: u32 = 4294967295;
+
 // Digits of a report's longest decimal.
 pub const DIGIT_LIMIT: usize = 18;

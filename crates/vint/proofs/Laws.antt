@@ -156,6 +156,16 @@ took-all (suc w) (b ∷ bs) =
 pub took : (w : ℕ) (bs : List ℕ) (v k : ℕ) → takeVint w bs ≡ ended v k → Took w bs v k
 took w bs v k e = subst (IfEnded w bs) e (took-all w bs)
 
+-- and the other way round
+pub took-back : {w : ℕ} {bs : List ℕ} {v k : ℕ} → Took w bs v k → takeVint w bs ≡ ended v k
+took-back (took-last {w} {b} {bs} h) = take-last w b bs h
+took-back (took-on {w} {b} {v} {k} {bs} h t) = take-on w b bs h ∙ ap (grouped b) (took-back t)
+
+-- what stands behind it doesn't matter
+pub took-front : {w : ℕ} {bs : List ℕ} {v k : ℕ} → Took w bs v k → Took w (take k bs) v k
+took-front (took-last h) = took-last h
+took-front (took-on h t) = took-on h (took-front t)
+
 -- at least one byte, and no more than may be taken or are there
 pub taken-within : {w : ℕ} {bs : List ℕ} {v k : ℕ} → Took w bs v k → (1 ≤ k) × ((k ≤ w) × (k ≤ length bs))
 taken-within (took-last h) = (omega arith, (omega arith, omega arith))
@@ -313,6 +323,19 @@ module _ {w : ℕ} {bs : List ℕ} {sum unit at : ℕ} (h : Reading w bs sum uni
 
       none-there : length bs ≤ at → takeVint (w - at) (drop at bs) ≡ unended
       none-there i = rw (drop-of-length-le bs i) (take-nothing (w - at))
+
+-- a refusal's number is 11 or 12
+pub refusal-listed : (bs : List ℕ) (n : ℕ) → readVint bs ≡ Refused n → (n ≡ 11) ⊎ (n ≡ 12)
+unfolding answerOf
+refusal-listed bs n e = go (takeVint vintLimit bs) e
+  where
+    either : (c : Bool) (v k : ℕ) → cond c (Refused 12) (Number v k) ≡ Refused n → (n ≡ 11) ⊎ (n ≡ 12)
+    either true v k e = inr cc
+    either false v k e = let z : _≡_ {A = ℕ} 0 1 = cc in absurd (omega arith)
+
+    go : (t : Taken) → answerOf t ≡ Refused n → (n ≡ 11) ⊎ (n ≡ 12)
+    go (ended v k) e = either (isAnotherForm k (lastGroup v k)) v k e
+    go unended e = inl cc
 
 -- what the loop found is the reader's answer, and a refusal is a listed one
 pub answers : (bs : List ℕ) (t : Taken) (r : Unvint) → takeVint vintLimit bs ≡ t → r ≡ answerOf t
