@@ -74,6 +74,28 @@ def stored(d):
 def unstored(u):
     return u // 2 if u % 2 == 0 else -(u + 1) // 2
 
+def feed(count, array, fed, piece, room, end):
+    """numbers out of the held bytes and a piece: the numbers, and the bytes left over or a refusal with its place"""
+    held = array[:count]
+    if count > 4 or any(b & 128 for b in held) or fed + len(piece) > 0xFFFFFFFF:
+        return [], Refused(2)
+    if room < len(piece):
+        return [], Refused(8, len(piece))
+    rest, numbers = held + piece, []
+    while True:
+        place = fed + len(piece) - len(rest)
+        ends = [i for i, b in enumerate(rest[:5]) if b & 128]
+        if ends == [] and len(rest) >= 5:
+            return numbers, Refused(11, place + 4)
+        if ends == []:
+            return numbers, Refused(11, fed + len(piece)) if rest and end else rest
+        try:
+            number, taken = unvint(rest)
+        except Refused as e:
+            return numbers, Refused(e.number, place + ends[0])
+        numbers.append(number)
+        rest = rest[taken:]
+
 
 # ---- arenas
 
@@ -427,7 +449,8 @@ report ROOM
 unreport BYTES
 report-lane BYTES INDEX
 drift NAME LAST READING
-readings NAME ROOM""".split("\n")
+readings NAME ROOM
+feed COUNT HELD FED PIECE ROOM END""".split("\n")
 COMMANDS = {u.split()[0]: u for u in USAGE}
 HELP = """# a command to a line, words one space apart; an empty line and one that begins with # are passed over
 # NUMBERS are decimal
@@ -667,6 +690,22 @@ class Bench:
             return "absent kept"
         except Refused as e:
             return "refused %d%s kept" % (e.number, "" if e.told is None else " %d" % e.told)
+
+    def feed(self, count, held, fed, piece, room, end):
+        count, held = num(count, NULL), data(held)
+        if len(held) != 4:
+            raise Fault("not four bytes")
+        fed, piece, room = num(fed, NULL), data(piece), num(room)
+        if room > 16384:
+            raise Fault("too many places: at most 16384")
+        numbers, left = feed(count, held, fed, piece, room, num(end, 1))
+        said = " ".join(["numbers %d" % len(numbers)] + ["%d" % n for n in numbers])
+        if isinstance(left, Refused):
+            before = "refused %d%s" % (left.number, "" if left.told is None else " %d" % left.told)
+            said = before + (" " + said if left.number > 8 else "")
+        elif piece:
+            count, held, fed = len(left), left + bytes(4 - len(left)), fed + len(piece)
+        return "%s state %d %s %d kept" % (said, count, held.hex(), fed)
 
     def help(self):
         return HELP + "\n" + "\n".join("# " + u for u in USAGE)

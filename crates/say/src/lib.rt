@@ -141,7 +141,8 @@ fn spaced_word(n: u32) {
     then(n as u64);
 }
 
-fn spaced(words: &[u32]) {
+// Words in decimal, a space before each.
+pub fn spaced(words: &[u32]) {
     let mut i = 0;
     while i < words.len() {
         spaced_word(words[i]);
@@ -173,6 +174,7 @@ pub fn fault(n: u32) {
 ? no such memory: at most 131072 words, 2097152 and 3145728 bytes
 ? line too long
 ? unknown command
-? too many places: at most 16384";
+? too many places: at most 16384
+? not four bytes";
     line(text::scan::part(rows, n as usize, b'\n'));
 }

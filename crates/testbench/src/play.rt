@@ -46,12 +46,14 @@ fn play_same(
     lists: &mut [u8],
     name: &mut [u8],
     output: &mut [u8],
+    numbers: &mut [u32],
 ) {
     match k / 10 {
         2 => bench_read::play(k, st, line, table, keys, lists, name, output),
         4 => bench_areas::play(k, st, line, table, keys, lists, name, output),
         5 => bench_lower::play(k, line, lists, name, output),
         6 => bench_report::play(k, st, line, table, keys, lists, name, output),
+        8 => bench_pieces::play(line, name, numbers),
         _ => commands::help(),
     }
 }
@@ -67,6 +69,7 @@ fn play(
     name: &mut [u8],
     output: &mut [u8],
     places: &mut [i32],
+    numbers: &mut [u32],
 ) -> State {
     if k / 10 == 1 {
         return bench_write::play(k, st, line, table, keys, lists, name, output);
@@ -77,7 +80,7 @@ fn play(
     if k / 10 == 7 {
         return bench_readings::play(k, st, line, table, keys, lists, name, places);
     }
-    play_same(k, st, line, table, keys, lists, name, output);
+    play_same(k, st, line, table, keys, lists, name, output, numbers);
     st
 }
 
@@ -98,6 +101,7 @@ fn play_lent(
     name: &mut [u8],
     output: &mut [u8],
     places: &mut [i32],
+    numbers: &mut [u32],
 ) -> Bench {
     let st = b.st;
     let words = text::least(b.words, table.len());
@@ -113,6 +117,7 @@ fn play_lent(
         name,
         output,
         places,
+        numbers,
     );
     with_state(b, next)
 }
@@ -128,6 +133,7 @@ fn play_line(
     name: &mut [u8],
     output: &mut [u8],
     places: &mut [i32],
+    numbers: &mut [u32],
 ) -> Bench {
     let k = commands::number_of(line, is_long);
     if k == 0 {
@@ -137,7 +143,18 @@ fn play_line(
     if k == 1 {
         return lend(b, line, table, keys, lists);
     }
-    play_lent(b, k, line, table, keys, lists, name, output, places)
+    play_lent(
+        b,
+        k,
+        line,
+        table,
+        keys,
+        lists,
+        name,
+        output,
+        places,
+        numbers,
+    )
 }
 
 // Plays all of standard input.
@@ -150,6 +167,7 @@ fn play_input(
     name: &mut [u8],
     output: &mut [u8],
     places: &mut [i32],
+    numbers: &mut [u32],
 ) {
     let mut bench = fresh();
     let mut lines = lines::all();
@@ -165,6 +183,7 @@ fn play_input(
             name,
             output,
             places,
+            numbers,
         );
     }
 }
@@ -177,6 +196,7 @@ pub fn run(
     name: &mut [u8; 262144],
     output: &mut [u8; 1048576],
     places: &mut [i32; 16384],
+    numbers: &mut [u32; 16384],
 ) {
     let mut chunk = io::large_buffer();
     let mut line = io::large_buffer();
@@ -189,5 +209,6 @@ pub fn run(
         name,
         output,
         places,
+        numbers,
     );
 }

@@ -23,6 +23,8 @@ pub const UNKNOWN: u32 = 11;
 
 pub const TOO_MANY_PLACES: u32 = 12;
 
+pub const NOT_FOUR_BYTES: u32 = 13;
+
 // The first of two faults, 0 where there is none.
 pub fn first(a: u32, b: u32) -> u32 {
     if a != 0 {
