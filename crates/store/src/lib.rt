@@ -122,8 +122,7 @@ fn value_place(keys: &[u8], at: u32) -> usize
     (at as usize) + 2 + shared_arena_hashmap::key_length(keys, at)
 }
 
-// The header of the record at a place, or damage. Public for calls that take a lane's bytes in another way than a
-// reading does.
+// The header of the record at a place, or damage. Public for the calls that read a lane in other ways than these here.
 pub fn get_head(keys: &[u8], at: u32) -> Head
     requires { ⌜ (at + 2 ≤ length (now keys)) × (valuePlace (now keys) at + 16 ≤ length (now keys)) ⌝ }
     ensures { λ r. ⌜ r ≡ headOf (now (keys .entry)) at ⌝ }
