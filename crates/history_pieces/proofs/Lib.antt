@@ -1,0 +1,2 @@
+-- The theorems of specs/Promises.antt.
+pub mod Joined
