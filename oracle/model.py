@@ -289,6 +289,22 @@ class Store:
     def drift(self, name, last, new):
         self.append(name, vint(stored(signed(new - last))))
 
+    def piece(self, name, given, room):
+        """the bytes behind those given so far, as many as there are places or as are left"""
+        v, b, head, tail, rem = self.header(self.lookup(name))
+        n = self.lane_length(b, rem)
+        if given > n:
+            raise Refused(2)
+        if room == 0:
+            raise Refused(8, n)
+        end = min(given + room, n)
+        met = 0
+        while end > given and sum(block_size(3 + i) for i in range(met)) < end:
+            met += 1
+        whole = b"".join(
+            bytes(self.lists[p:p + block_size(3 + i)]) for i, p in enumerate(self.blocks(b, head, met)))
+        return whole[given:end]
+
     def block(self, name, index):
         v, b, head, tail, rem = self.header(self.lookup(name))
         if index >= b - 2:
@@ -450,6 +466,7 @@ unreport BYTES
 report-lane BYTES INDEX
 drift NAME LAST READING
 readings NAME ROOM
+piece NAME GIVEN ROOM
 feed COUNT HELD FED PIECE ROOM END""".split("\n")
 COMMANDS = {u.split()[0]: u for u in USAGE}
 HELP = """# a command to a line, words one space apart; an empty line and one that begins with # are passed over
@@ -686,6 +703,18 @@ class Bench:
         try:
             got = self.st.readings(name, room)
             return " ".join(["readings %d" % len(got)] + ["%d" % r for r in got] + ["kept"])
+        except Absent:
+            return "absent kept"
+        except Refused as e:
+            return "refused %d%s kept" % (e.number, "" if e.told is None else " %d" % e.told)
+
+    def piece(self, name, given, room):
+        name, given, room = data(name), num(given), num(room)
+        if room > PAGE:
+            raise Fault("output too long: at most 1048576")
+        try:
+            got = self.st.piece(name, given, room)
+            return "piece %d %s kept" % (len(got), shown(got))
         except Absent:
             return "absent kept"
         except Refused as e:

@@ -53,7 +53,7 @@ fn play_same(
         4 => bench_areas::play(k, st, line, table, keys, lists, name, output),
         5 => bench_lower::play(k, line, lists, name, output),
         6 => bench_report::play(k, st, line, table, keys, lists, name, output),
-        8 => bench_pieces::play(line, name, numbers),
+        8 => bench_pieces::play(k, st, line, table, keys, lists, name, output, numbers),
         _ => commands::help(),
     }
 }

@@ -4,8 +4,8 @@ use lib.ListN.{length, length-set}
 use mathlib.Core.Path.{_≡_}
 use Prim.Native.Nat.{_≤_, _-_}
 use borrow.Author.Needs.{needs}
-use Rattle.bench_pieces.proofs.fill.Statement.{statement}
-use Rattle.bench_pieces.proofs.fill.Tie as tie
+use Rattle.bench_pieces.proofs.feed.fill.Statement.{statement}
+use Rattle.bench_pieces.proofs.feed.fill.Tie as tie
 
 abbrev Inv-loop : tie.InvT-loop
 Inv-loop places₀ i₀ places i = (i ≤ length places) × (length places ≡ length places₀)

@@ -2,8 +2,8 @@
 use lib.ListN.{length}
 use Prim.Native.Nat.{_≤_, _-_}
 use borrow.Author.Needs.{needs}
-use Rattle.bench_pieces.proofs.is_kept.Statement.{statement}
-use Rattle.bench_pieces.proofs.is_kept.Tie as tie
+use Rattle.bench_pieces.proofs.feed.is_kept.Statement.{statement}
+use Rattle.bench_pieces.proofs.feed.is_kept.Tie as tie
 
 abbrev Inv-loop : tie.InvT-loop
 Inv-loop places i₀ i = i ≤ length places
