@@ -1,5 +1,5 @@
--- RULES AD5. What pieces come to in a store with a history: `pieces-back` of proofs/Joined.antt proves both records of
--- each store that an accepted creation made and of any calls on it.
+-- RULES AD5. What pieces come to in a store with a history: `piece-back` and `pieces-joined` of proofs/Joined.antt
+-- prove the two records of each store that an accepted creation made and of any calls on it.
 use Prim.Native.Nat.{ℕ, _-_, _≤_, _<_, min}
 use mathlib.Core.Path.{_≡_}
 use mathlib.Core.Option.{none, some}

@@ -1,0 +1,2 @@
+-- The theorem of specs/Panel.antt.
+pub mod Panel
