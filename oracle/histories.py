@@ -1,6 +1,6 @@
 """Random histories inside document 01's port domain, as testbench scripts. docs/COMPARISON.md says what they hold.
 
-What stands here keeps an account of room (pages, used bytes, table length), so that no call is refused for want of it and page ends can be
+No history has the empty name: the crate takes it, and the port refuses it since document 02's Seven. What stands here keeps an account of room (pages, used bytes, table length), so that no call is refused for want of it and page ends can be
 met exactly. It judges no answer: that is for the crate and the testbench."""
 import functools
 import random
@@ -363,7 +363,7 @@ class History:
 
 # ---- names
 
-BRANCHES = [0, 1, 2, 3, 4, 5, 7, 8, 9, 12, 15, 16, 17, 18, 20, 24, 31, 32, 33, 34, 40, 48, 63, 64, 65]
+BRANCHES = [1, 2, 3, 4, 5, 7, 8, 9, 12, 15, 16, 17, 18, 20, 24, 31, 32, 33, 34, 40, 48, 63, 64, 65]
 LONGER = [100, 255, 256, 257, 1000, 4095, 4096, 4097, 65534, 65535]
 
 
@@ -387,11 +387,11 @@ def some_name(rng, standing):
 
 
 def near(rng, name):
-    """a name that differs in one byte, or by one"""
+    """a name that differs in one byte, or by one; not the empty one"""
     draw = rng.random()
     if not name or draw < 0.15:
         return (name + rng.randbytes(1))[:65535]
-    if draw < 0.3:
+    if draw < 0.3 and len(name) > 1:
         return name[:-1]
     at = rng.choice([0, len(name) - 1, rng.randrange(len(name))])
     return name[:at] + bytes([name[at] ^ 1 << rng.randrange(8)]) + name[at + 1:]
@@ -551,13 +551,13 @@ def long_names(h):
             length = rng.choice([65535, 65535, 65534, rng.randint(20000, 65535)])
             h.append(long_name(rng, length), rng.choice([0, 1, 9, 40]))
         over = rng.choice([0, 0, 0, -1, -2, -18, 1, 2])
-        for length in (h.keys.left() - 18 + over, rng.choice([0, 1, 10])):
-            if 0 <= length <= 65535:
+        for length in (h.keys.left() - 18 + over, rng.choice([1, 2, 10])):
+            if 1 <= length <= 65535:
                 h.append(long_name(rng, length), 8)
                 h.say("state")
     for lane in list(h.lanes.values()):
         h.append(lane.name, some_length(rng, lane))
-        if len(lane.name) and rng.random() < 0.2:
+        if rng.random() < 0.2:
             h.ask_any(near(rng, lane.name))
     h.finish()
 

@@ -15,6 +15,15 @@ type Said = Result<String, Fault>;
 const STATE: [&str; 11] =
     ["seed", "words", "key_bytes", "list_bytes", "buckets", "end", "keys", "key_page", "key_used", "list_page", "list_used"];
 
+/// A name that both sides take: the port refuses a longer one, and by document 02's Seven the empty one.
+fn compared_name(word: &str) -> Result<Vec<u8>, Fault> {
+    let name = bytes(word)?;
+    if name.is_empty() || name.len() > 65_535 {
+        return outside("no name, or a long one");
+    }
+    Ok(name)
+}
+
 /// What is lent, the store on it once it is created, and before that a bare arena on the list pages.
 #[derive(Default)]
 struct Bench {
@@ -60,10 +69,7 @@ impl Bench {
 
     /// The store, for a name that may be asked for.
     fn asked(&self, word: &str) -> Result<(&Store, Vec<u8>), Fault> {
-        let (store, name) = (self.store()?, bytes(word)?);
-        if name.len() > 65_535 {
-            return outside("a long name");
-        }
+        let (store, name) = (self.store()?, compared_name(word)?);
         if store.is_full() && !store.is_listed(&name) {
             return outside("here the crate never ends");
         }
@@ -71,13 +77,10 @@ impl Bench {
     }
 
     fn append(&mut self, w: &[&str]) -> Said {
-        let (name, added) = (bytes(w[0])?, bytes(w[1])?);
+        let (name, added) = (compared_name(w[0])?, bytes(w[1])?);
         let Some(store) = self.store.as_mut() else {
             return outside("no store");
         };
-        if name.len() > 65_535 {
-            return outside("a long name");
-        }
         if !store.append(&name, &added) {
             return outside("no room");
         }
