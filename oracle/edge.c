@@ -265,12 +265,12 @@ static void records(void) {
     IS(found, 1);
     IS(reading(s, "A", 3), 0), IS(told[1], 3), IS(memcmp(output, data, 3), 0);
     REFUSED(s, "B", 0, 6);
-    REFUSED(s, "", 0, 6);
-    /* 18 bytes left: no room for a name of one byte, room for the empty one */
+    REFUSED(s, "", 0, 13); /* the empty name: 13 before 6 (V1) */
+    /* 18 bytes left: no room for a name of one byte; there would be for the empty one, which no lane has */
     s = at(LAST, S - 18, LAST, 0);
     REFUSED(s, "A", 0, 6);
-    IS(append(s, "", data, 0), 0);
-    IS(told_state().key_used, S);
+    REFUSED(s, "", 0, 13);
+    IS(length(s, ""), ABSENT);
     /* 6 before 7, where both apply */
     REFUSED(at(LAST, S, LAST, S), "A", 1, 6);
     /* from page 4,093 a record goes on to page 4,094 */

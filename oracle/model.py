@@ -194,11 +194,13 @@ class Store:
     def record_good(self, at):
         return self.key_good(at, 2) and self.key_good(at, 18 + number(self.keys[at:at + 2]))
 
-    def probe(self, name):
-        """place of the record, 'empty' or 'lap'"""
+    def probe(self, name, nameless):
+        """place of the record, 'empty' or 'lap'; for the empty name, which isn't looked up, what is given as nameless"""
         self.check()
         if len(name) > 65535:
             raise Refused(3)
+        if len(name) == 0:
+            raise nameless
         L, first = self.s["buckets"], self.first()
         h = murmur(self.s["seed"], name)
         for i in range(L):
@@ -215,7 +217,7 @@ class Store:
         return "lap"
 
     def lookup(self, name):
-        got = self.probe(name)
+        got = self.probe(name, Absent())
         if isinstance(got, str):
             raise Absent()
         return got
@@ -401,7 +403,7 @@ class Store:
                 self.enter(first, self.s["buckets"], at, h)
 
     def append(self, name, data):
-        got = self.probe(name)
+        got = self.probe(name, Refused(13))
         s, L = self.s, self.s["buckets"]
         saturated = L <= 2 * s["keys"]
         room = L + max(2 * L, 8) <= len(self.table) // 2

@@ -1,15 +1,14 @@
 -- What a sound store answers to an append: the number it is due, or acceptance. Assumes nothing.
-use Prim.Native.Nat.{ℕ, _+_, _*_, _≤_, _<_}
+use Prim.Native.Nat.{ℕ, _+_, _*_}
 use mathlib.Core.Path.{_≡_, refl, ap, _∙_, subst}
 use mathlib.Core.Logic.{_⊎_, inl, inr, ⊎-elim}
 use mathlib.Core.Bool.{Bool, true, false, cond}
 use mathlib.Core.Option.{Option, none, some}
 use mathlib.Core.List.{List}
 use native.Mathlib.Omega.{arith}
-use lib.Dec.{leb}
 use lib.ListN.{length}
-use borrow.Author.Tests.{le-leb, leb-true, leb-false}
-use Rattle.limits.specs.Limits.{pageSize, nameLimit, recordExtra}
+use borrow.Author.Tests.{le-leb}
+use Rattle.limits.specs.Limits.{pageSize, recordExtra}
 use Rattle.memory_arena.specs.declared.Arena.{Arena}
 use Rattle.memory_arena.specs.declared.Allocated.{Allocated}
 use Rattle.memory_arena.specs.declared.Allocated.the-variants.{At, NoRoom, Refused}
@@ -19,9 +18,13 @@ use Rattle.expull.specs.declared.Header.{Header}
 use Rattle.expull.specs.Header.{fresh}
 use Rattle.expull.specs.Append.{Writing, writing, appended, goodTail}
 use Rattle.store.specs.declared.Appended.the-variants.{Accepted}
+use Rattle.store.specs.declared.Name.{Name}
+use Rattle.store.specs.declared.Name.the-variants.{TooLong, Nameless, Proper}
+use Rattle.store.specs.Name.{nameKind}
 use Rattle.store.specs.Look.{Lent, checked, walkOf, headerOf, headerSound}
 use Rattle.store.specs.Append.{Out, out, declined, isSaturated, isCrowded, standingWritten, newWritten, onKeyRoom, appendNew}
-use Rattle.store.proofs.Cases.{append-3, append-met, met-standing, met-empty, met-lap, new-5, new-room, standing-on}
+use Rattle.store.proofs.Cases.{append-3, append-13, append-met, met-standing, met-empty, met-lap, new-5, new-room}
+use Rattle.store.proofs.Cases.{standing-on}
 use Rattle.store.proofs.Kept.{append-whole}
 use Rattle.history_lanes.specs.Lane.{arenaOf, HeaderFits}
 use Rattle.history_lanes.proofs.Readings.{lane-header, lane-tail}
@@ -79,8 +82,18 @@ Answers w G name bytes number = Declines w name bytes number ⊎ Accepts w G nam
 
 module _ {w : World} {G : Ghosts} (S : Sound w G) (name bytes : List ℕ) where
   -- a name that is too long
-  pub answers-long : nameLimit < length name → Declines w name bytes 3
-  answers-long h = record { some-number = λ z. omega arith; said = append-3 (w .state) (w .memory) name bytes (S .whole) h }
+  pub answers-long : nameKind (w .state) (length name) ≡ TooLong → Declines w name bytes 3
+  answers-long k = record {
+    some-number = λ z. omega arith;
+    said = append-3 (w .state) (w .memory) name bytes (S .whole) k;
+  }
+
+  -- the empty name
+  pub answers-nameless : nameKind (w .state) (length name) ≡ Nameless → Declines w name bytes 13
+  answers-nameless k = record {
+    some-number = λ z. omega arith;
+    said = append-13 (w .state) (w .memory) name bytes (S .whole) k;
+  }
 
   -- what is accepted passes the next call's check
   accepted-whole : (v : World) → appendIn w name bytes ≡ out (Accepted (v .state)) (v .memory) → checked (v .state) (v .memory) ≡ true
@@ -88,7 +101,7 @@ module _ {w : World} {G : Ghosts} (S : Sound w G) (name bytes : List ℕ) where
       subst (λ (m : Lent). checked (v .state) m ≡ true) (ap (λ (o : Out). o .memory) p)
       (append-whole (w .state) (w .memory) name bytes (v .state) (ap (λ (o : Out). o .answer) p))
 
-  module _ (short : length name ≤ nameLimit) where
+  module _ (proper : nameKind (w .state) (length name) ≡ Proper) where
     -- a standing name
     answers-written : (M : Stands G name) (o : Option Writing)
         → appended bytes (writing (w .memory .lists) (w .state .«list_arena») (G .header name)) ≡ o
@@ -104,7 +117,7 @@ module _ {w : World} {G : Ghosts} (S : Sound w G) (name bytes : List ℕ) where
     answers-standing M =
         rw (lane-plan (w .memory .lists) (w .state .«list_arena») (G .header name) bytes)
         (answers-written M (appended bytes (writing (w .memory .lists) (w .state .«list_arena») (G .header name))) refl
-        (append-met (w .state) (w .memory) name bytes (Standing (G .place name)) (S .whole) short (walk-finds S name M)
+        (append-met (w .state) (w .memory) name bytes (Standing (G .place name)) (S .whole) proper (walk-finds S name M)
         ∙ met-standing (w .state) (w .memory) name bytes (G .place name)
         ∙ standing-on (w .state) (w .memory) name bytes (G .place name)
         (appended bytes (writing (w .memory .lists) (w .state .«list_arena») (G .header name)))
@@ -118,8 +131,10 @@ module _ {w : World} {G : Ghosts} (S : Sound w G) (name bytes : List ℕ) where
       goes-new : appendIn w name bytes ≡ appendNew (w .state) (w .memory) name bytes
       goes-new =
           ⊎-elim
-          (λ e. append-met (w .state) (w .memory) name bytes Empty (S .whole) short e ∙ met-empty (w .state) (w .memory) name bytes)
-          (λ e. append-met (w .state) (w .memory) name bytes Lap (S .whole) short (e .0) ∙ met-lap (w .state) (w .memory) name bytes (e .1))
+          (λ e. append-met (w .state) (w .memory) name bytes Empty (S .whole) proper e
+          ∙ met-empty (w .state) (w .memory) name bytes)
+          (λ e. append-met (w .state) (w .memory) name bytes Lap (S .whole) proper (e .0)
+          ∙ met-lap (w .state) (w .memory) name bytes (e .1))
           (walk-misses S name M)
 
       new-written : (loose : isCrowded (w .state) ≡ false) (at : ℕ) (ka : Arena)
@@ -132,9 +147,11 @@ module _ {w : World} {G : Ghosts} (S : Sound w G) (name bytes : List ℕ) where
       new-written loose at ka r (some v) e p =
           inr (record {
             no-number = refl;
-            world = new-left S name bytes M short loose at ka r v e;
+            world = new-left S name bytes M proper loose at ka r v e;
             said = p;
-            took = took-new S name bytes M short loose at ka r v e (accepted-whole (new-left S name bytes M short loose at ka r v e) p);
+            took =
+                took-new S name bytes M proper loose at ka r v e
+                (accepted-whole (new-left S name bytes M proper loose at ka r v e) p);
           })
 
       new-roomed : (loose : isCrowded (w .state) ≡ false) (r : Allocated)
@@ -164,9 +181,11 @@ module _ {w : World} {G : Ghosts} (S : Sound w G) (name bytes : List ℕ) where
 
   -- whatever the name
   pub answers-any : (number : ℕ) × Answers w G name bytes number
-  answers-any = go (leb (length name) nameLimit) refl (decide-member name (G .names))
+  answers-any = go (nameKind (w .state) (length name)) refl (decide-member name (G .names))
     where
-      go : (b : Bool) → leb (length name) nameLimit ≡ b → Dec (Stands G name) → (number : ℕ) × Answers w G name bytes number
-      go false h d = (3, inl (answers-long (leb-false _ _ h)))
-      go true h (yes m) = (dueList (w .state) (w .memory) (G .header name) (length bytes), answers-standing (leb-true _ _ h) m)
-      go true h (no m) = (dueNew (w .state) (w .memory) name (length bytes), answers-new (leb-true _ _ h) m)
+      go : (k : Name) → nameKind (w .state) (length name) ≡ k → Dec (Stands G name)
+          → (number : ℕ) × Answers w G name bytes number
+      go TooLong e d = (3, inl (answers-long e))
+      go Nameless e d = (13, inl (answers-nameless e))
+      go Proper e (yes m) = (dueList (w .state) (w .memory) (G .header name) (length bytes), answers-standing e m)
+      go Proper e (no m) = (dueNew (w .state) (w .memory) name (length bytes), answers-new e m)

@@ -2,20 +2,22 @@
 use Prim.Native.Nat.{ℕ, _+_, _≤_, _<_}
 use mathlib.Core.Path.{_≡_, refl, sym, ap, _∙_, subst}
 use mathlib.Core.Logic.{inl, inr, _≢_}
-use mathlib.Core.Bool.{Bool, true, false, cond, false≢true}
+use mathlib.Core.Bool.{true, false≢true}
 use mathlib.Core.Option.{Option, none, some}
 use mathlib.Core.List.{List, []}
 use native.Mathlib.Omega.{arith}
-use lib.Dec.{leb}
 use lib.ListN.{length}
-use borrow.Author.Tests.{leb-true, leb-false}
 use Rattle.limits.specs.Limits.{nameLimit}
 use Rattle.numbers.proofs.Tests.{same-test}
 use Rattle.murmurhash2.specs.Murmur.{murmurHash2}
 use Rattle.shared_arena_hashmap.specs.Power.{roundedDown}
+use Rattle.store.specs.declared.Name.{Name}
+use Rattle.store.specs.declared.Name.the-variants.{TooLong, Nameless, Proper}
 use Rattle.store.specs.declared.Lookup.the-variants.{Failed}
+use Rattle.store.specs.Name.{nameKind, byKind}
 use Rattle.store.specs.Look.{walkOf, lookupOf}
 use Rattle.store.specs.Append.{Out}
+use Rattle.store.proofs.Guard.{kind-long}
 use Rattle.store.proofs.Found.{lookup-3}
 use Rattle.history_names.proofs.Grow.{clears-count}
 use Rattle.history_names.proofs.Lookup.{looks-few}
@@ -27,9 +29,10 @@ use Rattle.history.specs.Numbers.{appendedNumber, numberOf, dueOf, numbe
 use Rattle.history.specs.Promises.{ReadsAs, AnswersDue, HasNames}
 use Rattle.history.specs.Frames.{LeavesAlone}
 use Rattle.history.specs.Demand.{Demand3}
-use Rattle.history.specs.Sound.{Ghosts, Sound}
+use Rattle.history.specs.Sound.{Ghosts, Stands, Sound}
 use Rattle.history.proofs.Log.{play-more, log-more}
-use Rattle.history.proofs.Answers.{Declines, Accepts, Answers, answers-long, answers-standing, answers-new, answers-any}
+use Rattle.history.proofs.Answers.{Declines, Accepts, Answers, answers-long, answers-nameless, answers-standing}
+use Rattle.history.proofs.Answers.{answers-new, answers-any}
 use Rattle.history.proofs.Born.{nobody, born-sound, born-empty}
 use Rattle.history.proofs.Told.{Says, Counts, Played, played}
 use Rattle.history.proofs.Shape.{lane-due}
@@ -55,23 +58,26 @@ due-answers w G name bytes n (inr A) = record {
   refused = λ f. absurd (f (A .no-number));
 }
 
-due-stood : {w : World} {G : Ghosts} → Sound w G → (name bytes : List ℕ) → length name ≤ nameLimit → (o : Option (List ℕ)) → Says w G name o
+due-stood : {w : World} {G : Ghosts} → Sound w G → (name bytes : List ℕ) → nameKind (w .state) (length name) ≡ Proper
+    → (o : Option (List ℕ)) → Says w G name o
     → AnswersDue w name bytes (dueBy (w .state) (w .memory) name o (length bytes))
-due-stood {w} {G} S name bytes short none s = due-answers w G name bytes _ (answers-new S name bytes short s)
-due-stood {w} {G} S name bytes short (some bs) s =
+due-stood {w} {G} S name bytes proper none s = due-answers w G name bytes _ (answers-new S name bytes proper s)
+due-stood {w} {G} S name bytes proper (some bs) s =
     let e : dueList (w .state) (w .memory) (G .header name) (length bytes) ≡ dueList (w .state) (w .memory) (shapeOf (length bs)) (length bytes) =
     lane-due (w .memory .lists) (w .state .«list_arena») (G .header name) (G .blocks name) (S .lanes name (s .0)) (w .state) (w .memory) (length bytes)
     ∙ ap (λ (l : List ℕ). dueList (w .state) (w .memory) (shapeOf (length l)) (length bytes)) (s .1) in
-    subst (AnswersDue w name bytes) e (due-answers w G name bytes _ (answers-standing S name bytes short (s .0)))
+    subst (AnswersDue w name bytes) e (due-answers w G name bytes _ (answers-standing S name bytes proper (s .0)))
 
 due-said : {w : World} {G : Ghosts} → Sound w G → (name bytes : List ℕ) (o : Option (List ℕ)) → Says w G name o
     → AnswersDue w name bytes (due (w .state) (w .memory) name o (length bytes))
 unfolding due
-due-said {w} {G} S name bytes o s = go (leb (length name) nameLimit) refl
+due-said {w} {G} S name bytes o s = go (nameKind (w .state) (length name)) refl
   where
-    go : (b : Bool) → leb (length name) nameLimit ≡ b → AnswersDue w name bytes (cond b (dueBy (w .state) (w .memory) name o (length bytes)) 3)
-    go true e = due-stood S name bytes (leb-true _ _ e) o s
-    go false e = due-declines w name bytes 3 (answers-long S name bytes (leb-false _ _ e))
+    go : (k : Name) → nameKind (w .state) (length name) ≡ k
+        → AnswersDue w name bytes (byKind k 3 13 (dueBy (w .state) (w .memory) name o (length bytes)))
+    go TooLong e = due-declines w name bytes 3 (answers-long S name bytes e)
+    go Nameless e = due-declines w name bytes 13 (answers-nameless S name bytes e)
+    go Proper e = due-stood S name bytes e o s
 
 -- an append that is accepted
 accepted-took : (w : World) (G : Ghosts) (name bytes : List ℕ) (n : ℕ) → Answers w G name bytes n → accepts w name bytes ≡ true → Accepts w G name bytes n
@@ -93,15 +99,27 @@ module _ (capacity seed : ℕ) (table keys lists : List ℕ) (w : World) (B : Bo
   pub reads-back : (calls : List Call) (name : List ℕ) → length name ≤ nameLimit → ReadsAs (play calls w) name (joined name calls w)
   reads-back calls name short = reads-as (history calls .sound) name short (joined name calls w) (says calls name)
 
+  -- a name that doesn't stand was never accepted
+  never : (calls : List Call) (name : List ℕ) → (Stands (history calls .ghosts) name → ⊥) → joined name calls w ≡ none
+  never calls name f = go (joined name calls w) refl (says calls name)
+    where
+      go : (o : Option (List ℕ)) → joined name calls w ≡ o → Says (play calls w) (history calls .ghosts) name o
+          → joined name calls w ≡ none
+      go none e s = e
+      go (some bs) e s = absurd (f (s .0))
+
   -- a name over the limit is never accepted, and each lookup of it is refusal 3
   pub long-never : (calls : List Call) (name : List ℕ) → nameLimit < length name
       → (joined name calls w ≡ none) × (lookupOf (play calls w .state) (play calls w .memory) name ≡ Failed 3)
-  long-never calls name long =
-      (go (joined name calls w) refl (says calls name), lookup-3 (play calls w .state) (play calls w .memory) name (history calls .sound .whole) long)
-    where
-      go : (o : Option (List ℕ)) → joined name calls w ≡ o → Says (play calls w) (history calls .ghosts) name o → joined name calls w ≡ none
-      go none e s = e
-      go (some bs) e s = absurd (omega (arith, history calls .sound .records name (s .0) .short))
+  long-never calls name long = (
+    never calls name (λ m. omega (arith, history calls .sound .records name m .short)),
+    lookup-3 (play calls w .state) (play calls w .memory) name (history calls .sound .whole)
+        (kind-long (play calls w .state) (length name) long),
+  )
+
+  -- nor is the empty name
+  pub nameless-never : (calls : List Call) → joined [] calls w ≡ none
+  nameless-never calls = never calls [] (λ m. omega (arith, history calls .sound .records [] m .some))
 
   -- an append is accepted or refused exactly as it is due
   pub refusals-exact : (calls : List Call) (name bytes : List ℕ)
@@ -145,7 +163,7 @@ module _ (capacity seed : ℕ) (table keys lists : List ℕ) (w : World) (B : Bo
   pub numbers-exact : (calls : List Call) (c : Call)
       → numberOf c (play calls w) ≡ dueOf c (play calls w) (λ name. joined name calls w)
   numbers-exact calls =
-      number-due (play calls w) (λ name. joined name calls w) (reads-back calls) (λ name l. long-never calls name l .1)
+      number-due (play calls w) (λ name. joined name calls w) (history calls .sound .whole) (reads-back calls)
       (refusals-exact calls) (acceptedNames calls w) (names-exact calls)
 
   pub numbers-listed : (calls : List Call) (c : Call) → isOneOf (numbersOf c) (numberOf c (play calls w)) ≡ true
@@ -185,6 +203,7 @@ module _ (capacity seed : ℕ) (table keys lists : List ℕ) (w : World) (B : Bo
   demand-3 calls = record {
     reads-back = reads-back calls;
     long-never = long-never calls;
+    nameless-never = nameless-never calls;
     frames = frames calls;
     refusals-exact = refusals-exact calls;
     refused-unchanged = refused-unchanged calls;

@@ -28,6 +28,7 @@ use Rattle.store.specs.declared.Outcome.the-variants.{Block, NoSuchBlock}
 use Rattle.store.specs.State.{firstOf}
 use Rattle.store.specs.Look.{onLookup, headerOf, blockAt, findBlockOf}
 use Rattle.store.specs.Append.{grows, grownState, tableGrown}
+use Rattle.store.proofs.Guard.{kind-long}
 use Rattle.store.proofs.Found.{lookup-3}
 use Rattle.store.proofs.Cases.{state-stays, state-grows, table-stays}
 use Rattle.history_lanes.specs.Lane.{usedEnd}
@@ -66,7 +67,8 @@ told-block {w} {G} S j i p n e = go (decide-member j (G .names))
     absent f true l = not-block (findBlockOf (w .state) (w .memory) j i) p n e (inl (reads-absent S j (leb-true _ _ l) f .no-block i))
     absent f false l =
         not-block (findBlockOf (w .state) (w .memory) j i) p n e
-        (inr (inr (ap (λ (x : Lookup). onLookup x (blockAt (w .state) (w .memory) i)) (lookup-3 (w .state) (w .memory) j (S .whole) (leb-false _ _ l)))))
+        (inr (inr (ap (λ (x : Lookup). onLookup x (blockAt (w .state) (w .memory) i))
+        (lookup-3 (w .state) (w .memory) j (S .whole) (kind-long (w .state) (length j) (leb-false _ _ l))))))
 
     here : (M : Stands G j) (b : Bool) → ltb i (blockCount (G .header j)) ≡ b → BlockTold w G j i p n
     here M true l =

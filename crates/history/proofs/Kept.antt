@@ -1,6 +1,6 @@
 -- An accepted append leaves a sound store, to a standing name and to a new one: one lane has its bytes more, and every other is what it was.
 -- Assumes nothing.
-use Prim.Native.Nat.{ℕ, suc, _+_, _-_, _≤_}
+use Prim.Native.Nat.{ℕ, suc, _+_, _-_, _≤_, _<_}
 use mathlib.Core.Path.{_≡_, refl, sym, _∙_, subst}
 use mathlib.Core.Logic.{_⊎_, inl, inr, ⊎-elim}
 use mathlib.Core.Bool.{Bool, true, false, cond}
@@ -29,9 +29,12 @@ use Rattle.expull.specs.Header.{fresh, headerBytes}
 use Rattle.expull.specs.Append.{Writing, writing, appended}
 use Rattle.expull.proofs.Laws.Header.{header-length}
 use Rattle.store.specs.declared.State.{State}
+use Rattle.store.specs.declared.Name.the-variants.{Proper}
 use Rattle.store.specs.State.{firstOf}
+use Rattle.store.specs.Name.{nameKind}
 use Rattle.store.specs.Look.{lent, checked}
 use Rattle.store.specs.Append.{isCrowded, grows, grownState, stateGrown, tableGrown, movedState, recordBytes}
+use Rattle.store.proofs.Guard.{kind-length}
 use Rattle.store.proofs.Cases.{table-stays}
 use Rattle.history_lanes.specs.Lane.{content, TipClear, usedEnd, Lane, After}
 use Rattle.history_lanes.proofs.Blocks.{apart-within}
@@ -278,7 +281,8 @@ module _ {w : World} {G : Ghosts} (S : Sound w G) where
 
   -- ---- an append to a new name
 
-  module _ (name bytes : List ℕ) (M : Stands G name → ⊥) (short : length name ≤ nameLimit) (loose : isCrowded (w .state) ≡ false) (at : ℕ) (ka : Arena)
+  module _ (name bytes : List ℕ) (M : Stands G name → ⊥) (proper : nameKind (w .state) (length name) ≡ Proper)
+      (loose : isCrowded (w .state) ≡ false) (at : ℕ) (ka : Arena)
       (r : roomFor pageSize (w .state .«key_arena») (length (w .memory .keys)) (length name + recordExtra) ≡ At at ka) (v : Writing)
       (e : appended bytes (writing (w .memory .lists) (w .state .«list_arena») fresh) ≡ some v) where
     abbrev pub new-left : World
@@ -296,6 +300,9 @@ module _ {w : World} {G : Ghosts} (S : Sound w G) where
 
     room : Room pageSize (w .state .«key_arena») (length (w .memory .keys)) (length name + recordExtra) at ka
     room = room-facts pageSize (w .state .«key_arena») (length (w .memory .keys)) (length name + recordExtra) at ka (omega arith) key-stands r
+
+    its-length : (0 < length name) × (length name ≤ nameLimit)
+    its-length = kind-length (w .state) (length name) Proper proper
 
     new-in : at + (length name + recordExtra) ≤ length (w .memory .keys)
     new-in = room-in pageSize (w .state .«key_arena») (length (w .memory .keys)) (length name + recordExtra) at ka (omega arith) key-stands r
@@ -324,7 +331,8 @@ module _ {w : World} {G : Ghosts} (S : Sound w G) where
         → Record (overwrite at (recordBytes name (v .header)) (w .memory .keys)) ka (new-ghosts g .place j) j (new-ghosts g .header j)
     new-record g j (inl q) =
         rw (updated-same (G .place) name at j q, updated-same (G .header) name (v .header) j q, q)
-        (record-written (w .memory .keys) ka at name (v .header) short (omega (arith, room .end)) new-paged new-in)
+        (record-written (w .memory .keys) ka at name (v .header) (its-length .0) (its-length .1)
+        (omega (arith, room .end)) new-paged new-in)
     new-record g j (inr m) =
         rw (updated-other (G .place) name at j (other j m), updated-other (G .header) name (v .header) j (other j m))
         (record-up (omega (arith, room .above, room .end))

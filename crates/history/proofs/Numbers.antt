@@ -1,5 +1,5 @@
 -- The number of every call's answer, in a store that reads as a history says. Assumes nothing.
-use Prim.Native.Nat.{ℕ, _+_, _≤_, _<_}
+use Prim.Native.Nat.{ℕ, _+_, _≤_}
 use mathlib.Core.Path.{_≡_, refl, ap, _∙_, subst, sym}
 use mathlib.Core.Logic.{_≢_}
 use mathlib.Core.Bool.{Bool, true, false, cond, false≢true}
@@ -18,12 +18,17 @@ use Rattle.expull.specs.Header.{fresh}
 use Rattle.expull.specs.Append.{planOf}
 use Rattle.store.specs.declared.State.{State}
 use Rattle.store.specs.declared.Lookup.{Lookup}
-use Rattle.store.specs.declared.Lookup.the-variants.{Failed}
+use Rattle.store.specs.declared.Lookup.the-variants.{Missing, Failed}
+use Rattle.store.specs.declared.Name.{Name}
+use Rattle.store.specs.declared.Name.the-variants.{TooLong, Nameless, Proper}
 use Rattle.store.specs.declared.Listed.{Listed}
 use Rattle.store.specs.declared.Listed.the-variants.{Bucket, NoMore, Stopped}
-use Rattle.store.specs.Look.{Lent, Read, lookupOf, onLookup, onLookupRead, lengthAt, lengthOf, readAt, readOf, blockAt}
-use Rattle.store.specs.Look.{findBlockOf, nextOf}
+use Rattle.store.specs.Name.{nameKind, byKind}
+use Rattle.store.specs.Look.{Lent, checked, Read, lookupOf, onLookup, onLookupRead, lengthAt, lengthOf, readAt, readOf}
+use Rattle.store.specs.Look.{blockAt, findBlockOf, nextOf}
 use Rattle.store.specs.Append.{isCrowded}
+use Rattle.store.proofs.Guard.{kind-length}
+use Rattle.store.proofs.Found.{lookup-3, lookup-nameless}
 use Rattle.history.specs.History.{World, Call, appends, looksUp, asksLength, reads, findsBlock, showsBlock}
 use Rattle.history.specs.History.{listsFrom, countsKeys}
 use Rattle.history.specs.Due.{shapeOf, dueBlocks, dueRecord, dueList, dueNew, dueBy, due}
@@ -35,7 +40,7 @@ use Rattle.history.specs.Promises.{blocksFor, ReadsAs, AnswersDue, HasNa
 
 -- of an append
 abbrev dueNumbers : List ℕ
-dueNumbers = 3 ∷ 5 ∷ 6 ∷ 7 ∷ []
+dueNumbers = 3 ∷ 13 ∷ 5 ∷ 6 ∷ 7 ∷ []
 
 listed-blocks : (o : Option Arena) → isOneOf dueNumbers (dueBlocks o) ≡ true
 listed-blocks none = refl
@@ -66,24 +71,27 @@ listed-by : (st : State) (m : Lent) (name : List ℕ) (o : Option (List ℕ)) (n
 listed-by st m name none n = listed-new st m name n
 listed-by st m name (some bs) n = listed-list st m (shapeOf (length bs)) n
 
--- only 3, 5, 6 and 7 are ever due
+-- only 3, 13, 5, 6 and 7 are ever due
 pub due-listed : (st : State) (m : Lent) (name : List ℕ) (stood : Option (List ℕ)) (n : ℕ)
-    → isOneOf (3 ∷ 5 ∷ 6 ∷ 7 ∷ []) (due st m name stood n) ≡ true
+    → isOneOf (3 ∷ 13 ∷ 5 ∷ 6 ∷ 7 ∷ []) (due st m name stood n) ≡ true
 unfolding due
-due-listed st m name stood n = go (leb (length name) nameLimit)
+due-listed st m name stood n = go (nameKind st (length name))
   where
-    go : (b : Bool) → isOneOf dueNumbers (cond b (dueBy st m name stood n) 3) ≡ true
-    go true = listed-by st m name stood n
-    go false = refl
+    go : (k : Name) → isOneOf dueNumbers (byKind k 3 13 (dueBy st m name stood n)) ≡ true
+    go TooLong = refl
+    go Nameless = refl
+    go Proper = listed-by st m name stood n
 
 -- of a call on a name: 3, or what it may be due
-named-listed : (ns : List ℕ) (name : List ℕ) (n : ℕ) → isOneOf (3 ∷ ns) n ≡ true
-    → isOneOf (3 ∷ ns) (dueNamed name n) ≡ true
-named-listed ns name n e = go (leb (length name) nameLimit)
+named-listed : (ns : List ℕ) (st : State) (name : List ℕ) (n : ℕ) → isOneOf (3 ∷ ns) n ≡ true
+    → isOneOf (3 ∷ ns) (dueNamed st name n) ≡ true
+unfolding dueNamed
+named-listed ns st name n e = go (nameKind st (length name))
   where
-    go : (b : Bool) → isOneOf (3 ∷ ns) (cond b n 3) ≡ true
-    go true = e
-    go false = refl
+    go : (k : Name) → isOneOf (3 ∷ ns) (byKind k 3 0 n) ≡ true
+    go TooLong = refl
+    go Nameless = refl
+    go Proper = e
 
 read-listed : (o : Option (List ℕ)) (output : List ℕ) → isOneOf (3 ∷ 8 ∷ []) (dueRead o output) ≡ true
 read-listed none output = refl
@@ -96,11 +104,11 @@ read-listed (some bs) output = go (leb (length bs) (length output))
 pub due-of-listed : (c : Call) (w : World) (stood : List ℕ → Option (List ℕ))
     → isOneOf (numbersOf c) (dueOf c w stood) ≡ true
 due-of-listed (appends name bytes) w stood = due-listed (w .state) (w .memory) name (stood name) (length bytes)
-due-of-listed (looksUp name) w stood = named-listed [] name 0 refl
-due-of-listed (asksLength name) w stood = named-listed [] name 0 refl
+due-of-listed (looksUp name) w stood = named-listed [] (w .state) name 0 refl
+due-of-listed (asksLength name) w stood = named-listed [] (w .state) name 0 refl
 due-of-listed (reads name output) w stood =
-    named-listed (8 ∷ []) name (dueRead (stood name) output) (read-listed (stood name) output)
-due-of-listed (findsBlock name i) w stood = named-listed [] name 0 refl
+    named-listed (8 ∷ []) (w .state) name (dueRead (stood name) output) (read-listed (stood name) output)
+due-of-listed (findsBlock name i) w stood = named-listed [] (w .state) name 0 refl
 due-of-listed (showsBlock at n) w stood = refl
 due-of-listed (listsFrom i) w stood = refl
 due-of-listed countsKeys w stood = refl
@@ -133,39 +141,45 @@ never-these c n e = (other 2 (no-2 c), other 4 (no-4 c))
 
 -- ---- the number that a call's answer has
 
-module _ (w : World) (stood : List ℕ → Option (List ℕ)) (name : List ℕ)
-    (R : length name ≤ nameLimit → ReadsAs w name (stood name))
-    (F : nameLimit < length name → lookupOf (w .state) (w .memory) name ≡ Failed 3) where
-  -- by the name's length
-  by-length : (n k : ℕ) → (length name ≤ nameLimit → n ≡ k) → (nameLimit < length name → n ≡ 3) → n ≡ dueNamed name k
-  by-length n k f g = go (leb (length name) nameLimit) refl
-    where
-      go : (b : Bool) → leb (length name) nameLimit ≡ b → n ≡ cond b k 3
-      go true e = f (leb-true _ _ e)
-      go false e = g (leb-false _ _ e)
+module _ (w : World) (stood : List ℕ → Option (List ℕ)) (whole : checked (w .state) (w .memory) ≡ true)
+    (R : (name : List ℕ) → length name ≤ nameLimit → ReadsAs w name (stood name)) (name : List ℕ) where
+  abbrev kind : Name
+  kind = nameKind (w .state) (length name)
 
-  looks-up : numberOf (looksUp name) w ≡ dueNamed name 0
-  looks-up = by-length _ 0 (λ s. go (stood name) (R s)) (λ l. ap lookupNumber (F l))
+  -- by what the guard says: of a lookup's answer that is no place, f is the number
+  by-kind : (f : Lookup → ℕ) (n : ℕ) → f (Failed 3) ≡ 3 → f Missing ≡ 0
+      → (ReadsAs w name (stood name) → f (lookupOf (w .state) (w .memory) name) ≡ n)
+      → f (lookupOf (w .state) (w .memory) name) ≡ dueNamed (w .state) name n
+  unfolding dueNamed
+  by-kind f n p q r = go kind refl
+    where
+      go : (k : Name) → nameKind (w .state) (length name) ≡ k
+          → f (lookupOf (w .state) (w .memory) name) ≡ byKind k 3 0 n
+      go TooLong e = ap f (lookup-3 (w .state) (w .memory) name whole e) ∙ p
+      go Nameless e = ap f (lookup-nameless (w .state) (w .memory) name whole e) ∙ q
+      go Proper e = r (R name (kind-length (w .state) (length name) Proper e .1))
+
+  looks-up : numberOf (looksUp name) w ≡ dueNamed (w .state) name 0
+  looks-up = by-kind lookupNumber 0 refl refl (go (stood name))
     where
       go : (o : Option (List ℕ)) → ReadsAs w name o → lookupNumber (lookupOf (w .state) (w .memory) name) ≡ 0
       go none A = ap lookupNumber (A .missed)
       go (some bs) A = ap lookupNumber (A .found)
 
-  asks-length : numberOf (asksLength name) w ≡ dueNamed name 0
+  asks-length : numberOf (asksLength name) w ≡ dueNamed (w .state) name 0
   unfolding lengthOf
   asks-length =
-      by-length _ 0 (λ s. go (stood name) (R s))
-      (λ l. ap (λ (x : Lookup). answerNumber (onLookup x (lengthAt (w .memory .keys)))) (F l))
+      by-kind (λ (x : Lookup). answerNumber (onLookup x (lengthAt (w .memory .keys)))) 0 refl refl (go (stood name))
     where
       go : (o : Option (List ℕ)) → ReadsAs w name o → answerNumber (lengthOf (w .state) (w .memory) name) ≡ 0
       go none A = ap answerNumber (A .unmeasured)
       go (some bs) A = ap answerNumber (A .measured)
 
-  reads-on : (output : List ℕ) → numberOf (reads name output) w ≡ dueNamed name (dueRead (stood name) output)
+  reads-on : (output : List ℕ) → numberOf (reads name output) w ≡ dueNamed (w .state) name (dueRead (stood name) output)
   unfolding readOf
   reads-on output =
-      by-length _ (dueRead (stood name) output) (λ s. go (stood name) (R s))
-      (λ l. ap (λ (x : Lookup). answerNumber (onLookupRead x readThere output .answer)) (F l))
+      by-kind (λ (x : Lookup). answerNumber (onLookupRead x readThere output .answer)) (dueRead (stood name) output)
+      refl refl (go (stood name))
     where
       readThere : ℕ → Read
       readThere at = readAt (w .state) (w .memory) at output
@@ -180,11 +194,11 @@ module _ (w : World) (stood : List ℕ → Option (List ℕ)) (name : List ℕ)
       go none A = ap (λ (r : Read). answerNumber (r .answer)) (A .unread output)
       go (some bs) A = fits bs A (leb (length bs) (length output)) refl
 
-  finds-block : (i : ℕ) → numberOf (findsBlock name i) w ≡ dueNamed name 0
+  finds-block : (i : ℕ) → numberOf (findsBlock name i) w ≡ dueNamed (w .state) name 0
   unfolding findBlockOf
   finds-block i =
-      by-length _ 0 (λ s. go (stood name) (R s))
-      (λ l. ap (λ (x : Lookup). answerNumber (onLookup x (blockAt (w .state) (w .memory) i))) (F l))
+      by-kind (λ (x : Lookup). answerNumber (onLookup x (blockAt (w .state) (w .memory) i))) 0 refl refl
+      (go (stood name))
     where
       met : (bs : List ℕ) → ReadsAs w name (some bs) → (b : Bool) → ltb i (blocksFor (length bs)) ≡ b
           → answerNumber (findBlockOf (w .state) (w .memory) name i) ≡ 0
@@ -201,18 +215,17 @@ unstopped-number (Bucket i at) f = refl
 unstopped-number NoMore f = refl
 unstopped-number (Stopped n) f = absurd (f n refl)
 
-module _ (w : World) (stood : List ℕ → Option (List ℕ))
+module _ (w : World) (stood : List ℕ → Option (List ℕ)) (whole : checked (w .state) (w .memory) ≡ true)
     (R : (name : List ℕ) → length name ≤ nameLimit → ReadsAs w name (stood name))
-    (F : (name : List ℕ) → nameLimit < length name → lookupOf (w .state) (w .memory) name ≡ Failed 3)
     (A : (name bytes : List ℕ) → AnswersDue w name bytes (due (w .state) (w .memory) name (stood name) (length bytes)))
     (ns : List (List ℕ)) (N : HasNames w ns) where
   -- every call's answer has the number that the call is due
   pub number-due : (c : Call) → numberOf c w ≡ dueOf c w stood
   number-due (appends name bytes) = A name bytes .said
-  number-due (looksUp name) = looks-up w stood name (R name) (F name)
-  number-due (asksLength name) = asks-length w stood name (R name) (F name)
-  number-due (reads name output) = reads-on w stood name (R name) (F name) output
-  number-due (findsBlock name i) = finds-block w stood name (R name) (F name) i
+  number-due (looksUp name) = looks-up w stood whole R name
+  number-due (asksLength name) = asks-length w stood whole R name
+  number-due (reads name output) = reads-on w stood whole R name output
+  number-due (findsBlock name i) = finds-block w stood whole R name i
   number-due (showsBlock at n) = refl
   number-due (listsFrom i) = unstopped-number (nextOf (w .state) (w .memory) i) (N .unstopped i)
   number-due countsKeys = ap countedNumber (N .told)

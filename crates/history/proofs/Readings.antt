@@ -20,20 +20,25 @@ use Rattle.expull.specs.declared.Block.the-variants.{NoBlock}
 use Rattle.expull.specs.Header.{laneLength, blockCount}
 use Rattle.expull.specs.Blocks.{laneBytes, goodBlocks, blockPlace, blockLength, blockOf}
 use Rattle.store.specs.declared.State.{State}
+use Rattle.store.specs.declared.Name.{Name}
+use Rattle.store.specs.declared.Name.the-variants.{TooLong, Nameless, Proper}
 use Rattle.store.specs.declared.Lookup.{Lookup}
 use Rattle.store.specs.declared.Lookup.the-variants.{At, Missing}
 use Rattle.store.specs.declared.Answer.the-variants.{Found, Refused}
 use Rattle.store.specs.declared.Outcome.the-variants.{Length, Reading, Block, NoSuchBlock}
+use Rattle.store.specs.Name.{nameKind}
 use Rattle.store.specs.Look.{Lent, lookupOf, onLookup, onLookupRead, headerOf, lengthAt, lengthOf, reading, readAt}
 use Rattle.store.specs.Look.{readOf, onBlock, blockAt, findBlockOf, blocksSound}
-use Rattle.store.proofs.Found.{lookup-met, Headed, length-found, length-at, read-on, read-at, block-found, block-at, show-part}
+use Rattle.store.proofs.Guard.{kind-length}
+use Rattle.store.proofs.Found.{lookup-nameless, lookup-met, Headed, length-found, length-at, read-on, read-at}
+use Rattle.store.proofs.Found.{block-found, block-at, show-part}
 use Rattle.history_lanes.specs.Lane.{Lane, pieces}
 use Rattle.history_lanes.proofs.Readings.{lane-blocks, lane-reads, lane-length, lane-block, lane-no-block}
 use Rattle.history_lanes.proofs.Readings.{lane-pieces, lane-piece}
 use Rattle.history.specs.History.{World}
 use Rattle.history.specs.Promises.{shownOf, shownBlocks, blocksFor, ReadsBack, ReadsAbsent, ReadsAs}
 use Rattle.history.specs.Sound.{Ghosts, Stands, Sound, bytesOf}
-use Rattle.history.proofs.Records.{record-key}
+use Rattle.history.proofs.Records.{record-proper, record-key}
 use Rattle.history.proofs.Shape.{lane-blocks-for, lane-room-for}
 use Rattle.history.proofs.Answers.{fits, header-is, header-fine, walk-finds, walk-misses}
 use Rattle.history.proofs.Told.{Says}
@@ -61,7 +66,8 @@ module _ {w : World} {G : Ghosts} (S : Sound w G) (name : List ℕ) where
     lane = S .lanes name M
 
     pub lookup-finds : lookupOf st m name ≡ At at
-    lookup-finds = lookup-met st m name (Standing at) (S .whole) (S .records name M .short) (walk-finds S name M)
+    lookup-finds =
+        lookup-met st m name (Standing at) (S .whole) (record-proper (S .records name M) st) (walk-finds S name M)
 
     headed : Headed (m .keys) at h
     headed = record { sound = header-fine S name M; is = sym (header-is S name M); ends = fits S name M .sound }
@@ -144,8 +150,14 @@ module _ {w : World} {G : Ghosts} (S : Sound w G) (name : List ℕ) where
 
   module _ (short : length name ≤ nameLimit) (M : Stands G name → ⊥) where
     unlooked : lookupOf st m name ≡ Missing
-    unlooked =
-        ⊎-elim (λ e. lookup-met st m name Empty (S .whole) short e) (λ e. lookup-met st m name Lap (S .whole) short (e .0)) (walk-misses S name M)
+    unlooked = go (nameKind st (length name)) refl
+      where
+        go : (k : Name) → nameKind st (length name) ≡ k → lookupOf st m name ≡ Missing
+        go TooLong e = absurd (omega (arith, kind-length st (length name) TooLong e))
+        go Nameless e = lookup-nameless st m name (S .whole) e
+        go Proper e =
+            ⊎-elim (λ f. lookup-met st m name Empty (S .whole) e f) (λ f. lookup-met st m name Lap (S .whole) e (f .0))
+            (walk-misses S name M)
 
     pub reads-absent : ReadsAbsent w name
     unfolding readOf lengthOf findBlockOf

@@ -1,5 +1,5 @@
 -- The record of a name in the key pages: what the calls read in it, what writes beside it leave, how it is written. Assumes nothing.
-use Prim.Native.Nat.{ℕ, _+_, _≤_}
+use Prim.Native.Nat.{ℕ, _+_, _≤_, _<_}
 use mathlib.Core.Path.{_≡_, sym, ap, _∙_, subst}
 use mathlib.Core.Bool.{true}
 use mathlib.Core.List.{List, _++_}
@@ -20,8 +20,12 @@ use Rattle.shared_arena_hashmap.specs.Probe.{keyLength, goodRecord, keyAt, valu
 use Rattle.expull.specs.declared.Header.{Header}
 use Rattle.expull.specs.Header.{headerBytes, headerAt, endBytesAt, soundHeader}
 use Rattle.expull.proofs.Laws.Header.{header-length, header-back, ends-back}
+use Rattle.store.specs.declared.State.{State}
+use Rattle.store.specs.declared.Name.the-variants.{Proper}
+use Rattle.store.specs.Name.{nameKind}
 use Rattle.store.specs.Look.{headerOf, headerSound}
 use Rattle.store.specs.Append.{recordBytes}
+use Rattle.store.proofs.Guard.{kind-proper}
 use Rattle.store.proofs.Cases.{record-written as three-writes}
 use Rattle.history_lanes.specs.Lane.{usedEnd, HeaderFits}
 use Rattle.history_lanes.proofs.Blocks.{apart-within}
@@ -33,6 +37,10 @@ module _ {keys : List ℕ} {a : Arena} {at : ℕ} {k : List ℕ} {h : Header} (R
   pub record-length : keyLength keys at ≡ length k
   unfolding keyLength
   record-length = rw (R .size) (le-round 2 (length k) (omega (arith, R .short)))
+
+  -- a store looks its name up
+  pub record-proper : (st : State) → nameKind st (length k) ≡ Proper
+  record-proper st = kind-proper st (length k) (R .some) (R .short)
 
   pub record-place : valuePlace keys at ≡ at + 2 + length k
   unfolding valuePlace
@@ -82,6 +90,7 @@ module _ {keys : List ℕ} {a : Arena} {at : ℕ} {k : List ℕ} {h : Header} (R
 pub record-kept : {keys : List ℕ} {a : Arena} {at : ℕ} {k : List ℕ} {h : Header} → Record keys a at k h → (p : ℕ) (bs : List ℕ)
     → Apart p (length bs) at (length k + recordExtra) → Record (overwrite p bs keys) a at k h
 record-kept {keys} {a} {at} {k} {h} R p bs d = record {
+  some = R .some;
   short = R .short;
   ends = R .ends;
   paged = R .paged;
@@ -97,12 +106,21 @@ record-kept {keys} {a} {at} {k} {h} R p bs d = record {
 
 -- a used part that grows
 pub record-up : {keys : List ℕ} {a b : Arena} {at : ℕ} {k : List ℕ} {h : Header} → usedEnd a ≤ usedEnd b → Record keys a at k h → Record keys b at k h
-record-up g R = record { short = R .short; ends = omega (arith, R .ends); paged = R .paged; size = R .size; key = R .key; value = R .value }
+record-up g R = record {
+  some = R .some;
+  short = R .short;
+  ends = omega (arith, R .ends);
+  paged = R .paged;
+  size = R .size;
+  key = R .key;
+  value = R .value;
+}
 
 -- another header in it
 pub record-revalued : {keys : List ℕ} {a : Arena} {at : ℕ} {k : List ℕ} {h : Header} → Record keys a at k h → standing pageSize a (length keys) ≡ true → (g : Header)
     → Record (overwrite (at + 2 + length k) (headerBytes g) keys) a at k g
 record-revalued {keys} {a} {at} {k} {h} R s g = record {
+  some = R .some;
   short = R .short;
   ends = R .ends;
   paged = R .paged;
@@ -123,11 +141,13 @@ length-record k h =
     )
 
 -- a whole record
-pub record-written : (keys : List ℕ) (a : Arena) (at : ℕ) (k : List ℕ) (h : Header) → length k ≤ nameLimit → at + (length k + recordExtra) ≤ usedEnd a
+pub record-written : (keys : List ℕ) (a : Arena) (at : ℕ) (k : List ℕ) (h : Header) → 0 < length k
+    → length k ≤ nameLimit → at + (length k + recordExtra) ≤ usedEnd a
     → placeOf pageSize at + (length k + recordExtra) ≤ pageSize → at + (length k + recordExtra) ≤ length keys
     → Record (overwrite at (recordBytes k h) keys) a at k h
-record-written keys a at k h s e p i =
+record-written keys a at k h z s e p i =
     subst (λ (m : List ℕ). Record m a at k h) (three-writes at k h keys) (record {
+      some = z;
       short = s;
       ends = e;
       paged = p;

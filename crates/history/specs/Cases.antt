@@ -15,7 +15,7 @@ use Rattle.store.specs.Append.{appendOf}
 use Rattle.history.specs.History.{World, Born, Call, appends, reads, listsFrom, play, entry, logOf}
 use Rattle.history.specs.History.{joined, joinedIn, acceptedNames, namesIn, acceptedBytes, bytesIn}
 use Rattle.history.specs.Due.{due}
-use Rattle.history.specs.Numbers.{numberOf, dueOf}
+use Rattle.history.specs.Numbers.{numberOf, dueNamed, dueOf}
 use Rattle.history.specs.Promises.{listedFrom, listedNames}
 
 abbrev pub lane-a : List ℕ
@@ -75,14 +75,18 @@ pub answer-cases : (readOf (then .state) (then .memory) lane-a (replicate 10 0)
 unfolding play readOf findBlockOf countOf listedFrom appendOf cleared
 answer-cases = (refl, refl, refl, refl, refl, refl)
 
--- and their numbers, as they are due: no room for a name's record, an output that is too short, and none
+-- and their numbers, as they are due: no room for a name's record, no name, an output that is too short, and none
 pub number-cases : (numberOf (appends long-c (1 ∷ [])) then ≡ 6)
     × (dueOf (appends long-c (1 ∷ [])) then (λ name. joined name calls start) ≡ 6)
+    × (numberOf (appends [] (1 ∷ [])) then ≡ 13)
+    × (dueOf (appends [] (1 ∷ [])) then (λ name. joined name calls start) ≡ 13)
+    × (numberOf (reads [] []) then ≡ 0)
+    × (dueOf (reads [] []) then (λ name. joined name calls start) ≡ 0)
     × (numberOf (reads lane-a (replicate 8 0)) then ≡ 8)
     × (dueOf (reads lane-a (replicate 8 0)) then (λ name. joined name calls start) ≡ 8)
     × (numberOf (listsFrom 9) then ≡ 0)
-unfolding play logOf joinedIn readOf nextOf due appendOf cleared
-number-cases = (refl, refl, refl, refl, refl)
+unfolding play logOf joinedIn readOf nextOf due dueNamed appendOf cleared
+number-cases = (refl, refl, refl, refl, refl, refl, refl, refl, refl)
 
 -- on a store with one bucket that can't grow and list pages of 12 bytes: no bucket left, no room for a second block,
 -- and a byte less

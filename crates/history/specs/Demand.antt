@@ -6,7 +6,7 @@ use mathlib.Core.Path.{_≡_}
 use mathlib.Core.Logic.{_≢_}
 use mathlib.Core.Bool.{true}
 use mathlib.Core.Option.{none}
-use mathlib.Core.List.{List, _++_}
+use mathlib.Core.List.{List, [], _++_}
 use lib.ListN.{length}
 use Rattle.limits.specs.Limits.{nameLimit}
 use Rattle.store.specs.declared.Lookup.the-variants.{Failed}
@@ -26,6 +26,8 @@ pub record Demand3 (w : World) (calls : List Call) : Type 0 where
   -- and so of a name over the limit: none was ever accepted, and its lookup is refusal 3
   pub long-never : (name : List ℕ) → nameLimit < length name
       → (joined name calls w ≡ none) × (lookupOf (play calls w .state) (play calls w .memory) name ≡ Failed 3)
+  -- and of the empty name (document 02, Seven): none was ever accepted, so it reads as absent
+  pub nameless-never : joined [] calls w ≡ none
   -- "an accepted append alters only what document 01 allows"
   pub frames : (name bytes : List ℕ) → accepts (play calls w) name bytes ≡ true
       → (at : ℕ) × LeavesAlone (play calls w) (after (appends name bytes) (play calls w)) name (joined name calls w) at

@@ -1,13 +1,13 @@
--- Document 01, "Refusal numbers": the number that an append is due in a history, 0 where it must be accepted. It is
--- worked out from the numbers of the state, the name, and what the name's accepted appends come to: it looks nothing
--- up, and knows no damage.
+-- Document 01, "Refusal numbers", and 02's 13: the number that an append is due in a history, 0 where it must be
+-- accepted. It is worked out from the numbers of the state, the name, and what the name's accepted appends come to: it
+-- looks nothing up, and knows no damage.
 use Prim.Native.Nat.{ℕ, zero, suc, _+_, _-_}
 use mathlib.Core.Bool.{cond}
 use mathlib.Core.Option.{Option, none, some}
 use mathlib.Core.List.{List}
-use lib.Dec.{leb, eqb}
+use lib.Dec.{eqb}
 use lib.ListN.{length}
-use Rattle.limits.specs.Limits.{pageSize, nullAddress, nameLimit, recordExtra}
+use Rattle.limits.specs.Limits.{pageSize, nullAddress, recordExtra}
 use Rattle.memory_arena.specs.declared.Arena.{Arena}
 use Rattle.memory_arena.specs.declared.Allocated.{Allocated}
 use Rattle.memory_arena.specs.declared.Allocated.the-variants.{At, NoRoom, Refused}
@@ -16,6 +16,7 @@ use Rattle.expull.specs.declared.Header.{Header}
 use Rattle.expull.specs.Header.{blockSize, fresh}
 use Rattle.expull.specs.Append.{planOf}
 use Rattle.store.specs.declared.State.{State}
+use Rattle.store.specs.Name.{nameKind, byKind}
 use Rattle.store.specs.Look.{Lent}
 use Rattle.store.specs.Append.{isCrowded}
 
@@ -66,7 +67,7 @@ abbrev pub dueBy : State → Lent → List ℕ → Option (List ℕ) → ℕ →
 dueBy st m name none n = dueNew st m name n
 dueBy st m name (some bs) n = dueList st m (shapeOf (length bs)) n
 
--- RULES Y7.
+-- RULES Y7. 3: a name over the limit. 13: the empty name
 unfoldable pub due : State → Lent → List ℕ → Option (List ℕ) → ℕ → ℕ
-unfolding dueNew dueList shapeOf
-due st m name stood n = cond (leb (length name) nameLimit) (dueBy st m name stood n) 3
+unfolding nameKind dueNew dueList shapeOf
+due st m name stood n = byKind (nameKind st (length name)) 3 13 (dueBy st m name stood n)

@@ -6,14 +6,15 @@ use mathlib.Core.Option.{Option, none, some}
 use mathlib.Core.List.{List, [], _∷_}
 use lib.Dec.{leb, eqb}
 use lib.ListN.{length}
-use Rattle.limits.specs.Limits.{nameLimit}
 use Rattle.limits.specs.Refusals.{numberIn, isAmong}
+use Rattle.store.specs.declared.State.{State}
 use Rattle.store.specs.declared.Appended.{Appended}
 use Rattle.store.specs.declared.Lookup.{Lookup}
 use Rattle.store.specs.declared.Answer.{Answer}
 use Rattle.store.specs.declared.Listed.{Listed}
 use Rattle.store.specs.declared.Counted.{Counted}
 use Rattle.store.specs.Said.{saidAppended, saidLookup, saidAnswer, saidListed, saidCounted}
+use Rattle.store.specs.Name.{nameKind, byKind}
 use Rattle.store.specs.Look.{lookupOf, lengthOf, readOf, findBlockOf, nextOf, countOf}
 use Rattle.history.specs.History.{World, Call, appends, looksUp, asksLength, reads, findsBlock, showsBlock}
 use Rattle.history.specs.History.{listsFrom, countsKeys, appendIn}
@@ -54,9 +55,10 @@ numberOf countsKeys w = countedNumber (countOf (w .state) (w .memory))
 
 -- ---- the number that a call is due, by its arguments and by what each name has come to
 
--- RULES Y8. 3: a name over the limit
-abbrev pub dueNamed : List ℕ → ℕ → ℕ
-dueNamed name number = cond (leb (length name) nameLimit) number 3
+-- RULES Y8. 3: a name over the limit. The empty name is absent, and no number is due
+unfoldable pub dueNamed : State → List ℕ → ℕ → ℕ
+unfolding nameKind
+dueNamed st name number = byKind (nameKind st (length name)) 3 0 number
 
 -- RULES Y8. 8: an output shorter than the lane
 abbrev pub dueRead : Option (List ℕ) → List ℕ → ℕ
@@ -66,10 +68,10 @@ dueRead (some bs) output = cond (leb (length bs) (length output)) 0 8
 -- RULES Y8.
 abbrev pub dueOf : Call → World → (List ℕ → Option (List ℕ)) → ℕ
 dueOf (appends name bytes) w stood = due (w .state) (w .memory) name (stood name) (length bytes)
-dueOf (looksUp name) w stood = dueNamed name 0
-dueOf (asksLength name) w stood = dueNamed name 0
-dueOf (reads name output) w stood = dueNamed name (dueRead (stood name) output)
-dueOf (findsBlock name i) w stood = dueNamed name 0
+dueOf (looksUp name) w stood = dueNamed (w .state) name 0
+dueOf (asksLength name) w stood = dueNamed (w .state) name 0
+dueOf (reads name output) w stood = dueNamed (w .state) name (dueRead (stood name) output)
+dueOf (findsBlock name i) w stood = dueNamed (w .state) name 0
 dueOf (showsBlock at n) w stood = 0
 dueOf (listsFrom i) w stood = 0
 dueOf countsKeys w stood = 0
@@ -78,7 +80,7 @@ dueOf countsKeys w stood = 0
 
 -- RULES Y8.
 abbrev pub numbersOf : Call → List ℕ
-numbersOf (appends name bytes) = 3 ∷ 5 ∷ 6 ∷ 7 ∷ []
+numbersOf (appends name bytes) = 3 ∷ 13 ∷ 5 ∷ 6 ∷ 7 ∷ []
 numbersOf (looksUp name) = 3 ∷ []
 numbersOf (asksLength name) = 3 ∷ []
 numbersOf (reads name output) = 3 ∷ 8 ∷ []

@@ -1,6 +1,6 @@
 -- What a history leaves: a sound store. Beside the state and the lent memory stand names, places, headers and block
 -- addresses that no code stores: they are what the words and bytes say, written out.
-use Prim.Native.Nat.{ℕ, _+_, _*_, _≤_}
+use Prim.Native.Nat.{ℕ, _+_, _*_, _≤_, _<_}
 use mathlib.Core.Path.{_≡_}
 use mathlib.Core.Bool.{true}
 use mathlib.Core.List.{List, [], _∷_}
@@ -19,9 +19,10 @@ use Rattle.history_lanes.specs.Lane.{wideOn, content, Clear, usedEnd, Lane}
 use Rattle.history_names.specs.Table.{Names, Member, occupied, Table}
 use Rattle.history.specs.History.{World}
 
--- RULES Y12. The record of name k at a place: within the used part, on one page; the name's length, the name, its
--- list's header
+-- RULES Y12. The record of name k, which isn't empty, at a place: within the used part, on one page; the name's length,
+-- the name, its list's header
 pub record Record (keys : List ℕ) (a : Arena) (at : ℕ) (k : List ℕ) (h : Header) : Type 0 where
+  pub some : 0 < length k
   pub short : length k ≤ nameLimit
   pub ends : at + (length k + recordExtra) ≤ usedEnd a
   pub paged : placeOf pageSize at + (length k + recordExtra) ≤ pageSize

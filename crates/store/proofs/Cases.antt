@@ -1,5 +1,5 @@
 -- The append, case by case, as its code goes. Assumes nothing.
-use Prim.Native.Nat.{ℕ, _+_, _≤_, _<_}
+use Prim.Native.Nat.{ℕ, _+_}
 use mathlib.Core.Path.{_≡_, refl, sym, ap, _∙_}
 use mathlib.Core.Bool.{true, false}
 use mathlib.Core.Option.{Option, none, some}
@@ -7,8 +7,7 @@ use mathlib.Core.List.{List, [], _∷_, _++_}
 use types.Run.{OneOf, miss}
 use denote.Enum.Declared.{tagOf}
 use lib.ListN.{length}
-use borrow.Author.Tests.{le-leb, lt-leb}
-use Rattle.limits.specs.Limits.{pageSize, nameLimit, recordExtra}
+use Rattle.limits.specs.Limits.{pageSize, recordExtra}
 use Rattle.numbers.proofs.Tests.{both-true, left-false, right-false, not-both}
 use Rattle.numbers.specs.LittleEndian.{leBytes}
 use Rattle.numbers.proofs.Laws.{length-le}
@@ -31,7 +30,9 @@ use Rattle.expull.specs.Append.{Writing, writing, appended, planOf, isSome, goo
 use Rattle.expull.proofs.Laws.Append.{fits-plan}
 use Rattle.store.specs.declared.State.{State}
 use Rattle.store.specs.declared.Appended.the-variants.{Accepted}
+use Rattle.store.specs.declared.Name.the-variants.{TooLong, Nameless, Proper}
 use Rattle.store.specs.State.{firstOf}
+use Rattle.store.specs.Name.{nameKind}
 use Rattle.store.specs.Look.{Lent, lent, checked, walkOf, headerOf, headerSound}
 use Rattle.store.specs.Append.{out, declined, roomToGrow, isSaturated, isCrowded, grows, grownState, stateGrown}
 use Rattle.store.specs.Append.{tableGrown, movedState, recordBytes, standingWritten, appendStanding, newWritten}
@@ -71,13 +72,20 @@ module _ (st : State) (m : Lent) (name bytes : List ℕ) where
   unfolding appendOf
   append-2 e = rw e
 
-  pub append-3 : checked st m ≡ true → nameLimit < length name → appendOf st m name bytes ≡ declined st m 3
+  pub append-3 : checked st m ≡ true → nameKind st (length name) ≡ TooLong
+      → appendOf st m name bytes ≡ declined st m 3
   unfolding appendOf
-  append-3 e h = rw (e, lt-leb (length name) nameLimit h)
+  append-3 e k = rw (e, k)
 
-  pub append-met : (x : Met) → checked st m ≡ true → length name ≤ nameLimit → walkOf st m name .met ≡ x → appendOf st m name bytes ≡ onMet x st m name bytes
+  pub append-13 : checked st m ≡ true → nameKind st (length name) ≡ Nameless
+      → appendOf st m name bytes ≡ declined st m 13
   unfolding appendOf
-  append-met x e h w = rw (e, le-leb (length name) nameLimit h, w)
+  append-13 e k = rw (e, k)
+
+  pub append-met : (x : Met) → checked st m ≡ true → nameKind st (length name) ≡ Proper → walkOf st m name .met ≡ x
+      → appendOf st m name bytes ≡ onMet x st m name bytes
+  unfolding appendOf
+  append-met x e k w = rw (e, k, w)
 
   pub met-damaged : onMet Damaged st m name bytes ≡ declined st m 4
   unfolding onMet

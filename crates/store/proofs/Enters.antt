@@ -6,9 +6,7 @@ use mathlib.Core.Bool.{Bool, true, false, cond}
 use mathlib.Core.Option.{Option, none, some}
 use mathlib.Core.List.{List}
 use native.Mathlib.Omega.{arith}
-use lib.Dec.{leb}
 use lib.ListN.{length}
-use borrow.Author.Tests.{leb-true}
 use Rattle.limits.specs.Limits.{pageSize, nameLimit, recordExtra}
 use Rattle.numbers.specs.LittleEndian.{leNumber, leBytes}
 use Rattle.numbers.proofs.Laws.{length-le, le-round}
@@ -35,13 +33,17 @@ use Rattle.expull.specs.Append.{Writing, writing, appended}
 use Rattle.store.specs.declared.State.{State}
 use Rattle.store.specs.declared.Appended.the-variants.{Accepted}
 use Rattle.store.specs.declared.Lookup.the-variants.{Missing, Failed}
+use Rattle.store.specs.declared.Name.{Name}
+use Rattle.store.specs.declared.Name.the-variants.{TooLong, Nameless, Proper}
 use Rattle.store.specs.State.{firstOf}
+use Rattle.store.specs.Name.{nameKind, byKind}
 use Rattle.store.specs.Look.{Lent, checked, walkOf, lookupOf, onMet as Look·onMet}
 use Rattle.store.specs.Append.{Out, declined, isSaturated, roomToGrow, isCrowded, grows, grownState, stateGrown}
 use Rattle.store.specs.Append.{tableGrown, movedState, recordBytes, newWritten, onKeyRoom, appendNew, onMet}
 use Rattle.store.specs.Append.{appendOf}
 use Rattle.store.specs.Promises.{Entered}
 use Rattle.store.proofs.Whole.{Whole, whole-facts, Growable, growable, grown-stands, first-in}
+use Rattle.store.proofs.Guard.{kind-length}
 use Rattle.store.proofs.Cases.{state-stays, state-grows, table-stays, table-grows, does-grow}
 use Rattle.store.proofs.Cases.{stays-unsaturated, record-written}
 
@@ -191,15 +193,17 @@ module _ (st : State) (m : Lent) (c : checked st m ≡ true) (name : List ℕ) (
 pub append-enters : (st : State) (m : Lent) (name bytes : List ℕ) (s : State) → lookupOf st m name ≡ Missing
     → appendOf st m name bytes .answer ≡ Accepted s → Entered st m name s (appendOf st m name bytes .memory)
 unfolding appendOf lookupOf Enters
-append-enters st m name bytes s l = go (checked st m) refl (leb (length name) nameLimit) refl l
+append-enters st m name bytes s l = go (checked st m) refl (nameKind st (length name)) refl l
   where
-    go : (b : Bool) → checked st m ≡ b → (d : Bool) → leb (length name) nameLimit ≡ d
-        → cond b (cond d (Look·onMet (walkOf st m name .met)) (Failed 3)) (Failed 2) ≡ Missing
-        → cond b (cond d (onMet (walkOf st m name .met) st m name bytes) (declined st m 3))
+    go : (b : Bool) → checked st m ≡ b → (k : Name) → nameKind st (length name) ≡ k
+        → cond b (byKind k (Failed 3) Missing (Look·onMet (walkOf st m name .met))) (Failed 2) ≡ Missing
+        → cond b (byKind k (declined st m 3) (declined st m 13) (onMet (walkOf st m name .met) st m name bytes))
         (declined st m 2) .answer ≡ Accepted s
         → Entered st m name s
-        (cond b (cond d (onMet (walkOf st m name .met) st m name bytes) (declined st m 3))
+        (cond b (byKind k (declined st m 3) (declined st m 13) (onMet (walkOf st m name .met) st m name bytes))
         (declined st m 2) .memory)
-    go true c true d l e = enters-met st m c name (leb-true _ _ d) bytes (walkOf st m name .met) refl l s e
-    go true c false d l e = let z : _≡_ {A = ℕ} 0 1 = cc in absurd (omega arith)
-    go false c d e l f = let z : _≡_ {A = ℕ} 0 1 = cc in absurd (omega arith)
+    go true c Proper k l e =
+        enters-met st m c name (kind-length st (length name) Proper k .1) bytes (walkOf st m name .met) refl l s e
+    go true c Nameless k l e = let z : _≡_ {A = ℕ} 0 1 = cc in absurd (omega arith)
+    go true c TooLong k l e = let z : _≡_ {A = ℕ} 0 1 = cc in absurd (omega arith)
+    go false c k e l f = let z : _≡_ {A = ℕ} 0 1 = cc in absurd (omega arith)

@@ -8,7 +8,7 @@ use mathlib.Core.List.{List}
 use native.Mathlib.Omega.{arith}
 use lib.Dec.{leb, eqb}
 use lib.ListN.{length}
-use Rattle.limits.specs.Limits.{pageSize, nameLimit, recordExtra}
+use Rattle.limits.specs.Limits.{pageSize, recordExtra}
 use Rattle.limits.specs.Refusals.{Asked, appending, lookingUp, measuring, readingLane, findingBlock, listingBuckets}
 use Rattle.limits.specs.Refusals.{isAmong, refusalNumbers, permitted}
 use Rattle.memory_arena.specs.declared.Arena.{Arena}
@@ -33,7 +33,10 @@ use Rattle.store.specs.declared.Answer.{Answer}
 use Rattle.store.specs.declared.Answer.the-variants.{Absent, Found, Refused}
 use Rattle.store.specs.declared.Outcome.the-variants.{Reading}
 use Rattle.store.specs.declared.Listed.the-variants.{Bucket, Stopped}
+use Rattle.store.specs.declared.Name.{Name}
+use Rattle.store.specs.declared.Name.the-variants.{TooLong, Nameless, Proper}
 use Rattle.store.specs.State.{firstOf}
+use Rattle.store.specs.Name.{nameKind, byKind}
 use Rattle.store.specs.Said.{saidAppended, saidLookup, saidAnswer, saidListed}
 use Rattle.store.specs.Look.{Lent, checked, walkOf, lookupOf, onLookup, onLookupRead, headerOf, headerSound, lengthAt, lengthOf, Read, reading, blocksSound, readAt, readOf, onBlock, blockAt, findBlockOf, onNext, nextOf}
 use Rattle.store.specs.Look.{onMet as Look·onMet}
@@ -48,6 +51,12 @@ pub record Fair (st : State) (m : Lent) (o : Out) : Type 0 where
 fair-cond : {st : State} {m : Lent} (b : Bool) (x y : Out) → Fair st m x → Fair st m y → Fair st m (cond b x y)
 fair-cond true x y p q = p
 fair-cond false x y p q = q
+
+fair-kind : {st : State} {m : Lent} (k : Name) (x y z : Out) → Fair st m x → Fair st m y → Fair st m z
+    → Fair st m (byKind k x y z)
+fair-kind TooLong x y z p q r = p
+fair-kind Nameless x y z p q r = q
+fair-kind Proper x y z p q r = r
 
 fair-declined : (st : State) (m : Lent) (n : ℕ) → isAmong n (refusalNumbers appending) ≡ true
     → Fair st m (declined st m n)
@@ -103,22 +112,25 @@ module _ (st : State) (m : Lent) (name bytes : List ℕ) where
   unfolding appendOf
   fair-append =
       fair-cond (checked st m) _ _
-      (fair-cond (leb (length name) nameLimit) _ _ (fair-met (walkOf st m name .met)) (fair-declined st m 3 refl)) (fair-declined st m 2 refl)
+      (fair-kind (nameKind st (length name)) _ _ _ (fair-declined st m 3 refl) (fair-declined st m 13 refl)
+      (fair-met (walkOf st m name .met)))
+      (fair-declined st m 2 refl)
 
 -- ---- the calls by name that change nothing
 
 pub fair-lookup : (st : State) (m : Lent) (name : List ℕ) → permitted lookingUp (saidLookup (lookupOf st m name)) ≡ true
 unfolding lookupOf
-fair-lookup st m name = go (checked st m) (leb (length name) nameLimit) (walkOf st m name .met)
+fair-lookup st m name = go (checked st m) (nameKind st (length name)) (walkOf st m name .met)
   where
-    go : (b c : Bool) (x : Met)
-        → permitted lookingUp (saidLookup (cond b (cond c (Look·onMet x) (Failed 3)) (Failed 2))) ≡ true
-    go true true Empty = refl
-    go true true (Standing at) = refl
-    go true true Damaged = refl
-    go true true Lap = refl
-    go true false x = refl
-    go false c x = refl
+    go : (b : Bool) (k : Name) (x : Met)
+        → permitted lookingUp (saidLookup (cond b (byKind k (Failed 3) Missing (Look·onMet x)) (Failed 2))) ≡ true
+    go true Proper Empty = refl
+    go true Proper (Standing at) = refl
+    go true Proper Damaged = refl
+    go true Proper Lap = refl
+    go true Nameless x = refl
+    go true TooLong x = refl
+    go false k x = refl
 
 -- a lookup's number carries over to a call whose numbers have a lookup's among them
 Wider : Asked → Type 0

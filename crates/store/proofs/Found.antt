@@ -9,7 +9,7 @@ use denote.Enum.Declared.{tagOf}
 use lib.Dec.{leb}
 use lib.ListN.{length}
 use borrow.Author.Tests.{le-leb, lt-leb}
-use Rattle.limits.specs.Limits.{pageSize, nameLimit}
+use Rattle.limits.specs.Limits.{pageSize}
 use Rattle.numbers.proofs.Tests.{right-false}
 use Rattle.spans.specs.Span.{readSpan, overwrite}
 use Rattle.memory_arena.specs.declared.Arena.{Arena}
@@ -27,7 +27,10 @@ use Rattle.expull.proofs.Laws.Header.{sound-facts}
 use Rattle.store.specs.declared.State.{State}
 use Rattle.store.specs.declared.Lookup.{Lookup}
 use Rattle.store.specs.declared.Lookup.the-variants.{At, Missing, Failed}
+use Rattle.store.specs.declared.Name.{Name}
+use Rattle.store.specs.declared.Name.the-variants.{TooLong, Nameless, Proper}
 use Rattle.store.specs.State.{firstOf}
+use Rattle.store.specs.Name.{nameKind, byKind}
 use Rattle.store.specs.declared.Head.the-variants.{Sound, Broken}
 use Rattle.store.specs.declared.Listed.the-variants.{Bucket, NoMore, Stopped}
 use Rattle.store.specs.declared.Counted.the-variants.{Keys, Unknown}
@@ -45,13 +48,18 @@ module _ (st : State) (m : Lent) (name : List ℕ) where
   unfolding lookupOf
   lookup-2 e = rw e
 
-  pub lookup-3 : checked st m ≡ true → nameLimit < length name → lookupOf st m name ≡ Failed 3
+  pub lookup-3 : checked st m ≡ true → nameKind st (length name) ≡ TooLong → lookupOf st m name ≡ Failed 3
   unfolding lookupOf
-  lookup-3 e h = rw (e, lt-leb (length name) nameLimit h)
+  lookup-3 e k = rw (e, k)
 
-  pub lookup-met : (x : Met) → checked st m ≡ true → length name ≤ nameLimit → walkOf st m name .met ≡ x → lookupOf st m name ≡ onMet x
+  pub lookup-nameless : checked st m ≡ true → nameKind st (length name) ≡ Nameless → lookupOf st m name ≡ Missing
   unfolding lookupOf
-  lookup-met x e h w = rw (e, le-leb (length name) nameLimit h, w)
+  lookup-nameless e k = rw (e, k)
+
+  pub lookup-met : (x : Met) → checked st m ≡ true → nameKind st (length name) ≡ Proper → walkOf st m name .met ≡ x
+      → lookupOf st m name ≡ onMet x
+  unfolding lookupOf
+  lookup-met x e k w = rw (e, k, w)
 
 -- what is known of a store and a place in it once a lookup has answered with that place
 pub record Held (st : State) (m : Lent) (at : ℕ) : Type 0 where
@@ -71,15 +79,17 @@ walk-held st m name at e w =
 -- a record that a lookup found
 pub lookup-held : (st : State) (m : Lent) (name : List ℕ) (at : ℕ) → lookupOf st m name ≡ At at → Held st m at
 unfolding lookupOf
-lookup-held st m name at e = go (checked st m) refl (leb (length name) nameLimit) (walkOf st m name .met) refl e
+lookup-held st m name at e = go (checked st m) refl (nameKind st (length name)) (walkOf st m name .met) refl e
   where
-    go : (b : Bool) → checked st m ≡ b → (c : Bool) (x : Met) → walkOf st m name .met ≡ x → cond b (cond c (onMet x) (Failed 3)) (Failed 2) ≡ At at → Held st m at
-    go true p true (Standing a) q e = let z : a ≡ at = cc in walk-held st m name at p (q ∙ ap Standing z)
-    go true p true Empty q e = let z : _≡_ {A = ℕ} 0 1 = cc in absurd (omega arith)
-    go true p true Damaged q e = let z : _≡_ {A = ℕ} 0 1 = cc in absurd (omega arith)
-    go true p true Lap q e = let z : _≡_ {A = ℕ} 0 1 = cc in absurd (omega arith)
-    go true p false x q e = let z : _≡_ {A = ℕ} 0 1 = cc in absurd (omega arith)
-    go false p c x q e = let z : _≡_ {A = ℕ} 0 1 = cc in absurd (omega arith)
+    go : (b : Bool) → checked st m ≡ b → (k : Name) (x : Met) → walkOf st m name .met ≡ x
+        → cond b (byKind k (Failed 3) Missing (onMet x)) (Failed 2) ≡ At at → Held st m at
+    go true p Proper (Standing a) q e = let z : a ≡ at = cc in walk-held st m name at p (q ∙ ap Standing z)
+    go true p Proper Empty q e = let z : _≡_ {A = ℕ} 0 1 = cc in absurd (omega arith)
+    go true p Proper Damaged q e = let z : _≡_ {A = ℕ} 0 1 = cc in absurd (omega arith)
+    go true p Proper Lap q e = let z : _≡_ {A = ℕ} 0 1 = cc in absurd (omega arith)
+    go true p Nameless x q e = let z : _≡_ {A = ℕ} 0 1 = cc in absurd (omega arith)
+    go true p TooLong x q e = let z : _≡_ {A = ℕ} 0 1 = cc in absurd (omega arith)
+    go false p k x q e = let z : _≡_ {A = ℕ} 0 1 = cc in absurd (omega arith)
 
 -- ---- the header of a record
 

@@ -6,10 +6,9 @@ use mathlib.Core.Bool.{Bool, true, false, cond, _&&_}
 use mathlib.Core.Option.{Option, none, some}
 use mathlib.Core.List.{List}
 use native.Mathlib.Omega.{arith}
-use lib.Dec.{leb}
 use lib.ListN.{length}
 use borrow.Author.Tests.{leb-false}
-use Rattle.limits.specs.Limits.{pageSize, nameLimit, recordExtra}
+use Rattle.limits.specs.Limits.{pageSize, recordExtra}
 use Rattle.numbers.proofs.Tests.{not-both}
 use Rattle.spans.specs.Span.{overwrite}
 use Rattle.spans.proofs.Laws.{length-overwrite}
@@ -34,7 +33,10 @@ use Rattle.store.specs.declared.State.{State}
 use Rattle.store.specs.declared.Created.the-variants.{Made, Barred}
 use Rattle.store.specs.declared.Appended.the-variants.{Accepted}
 use Rattle.store.specs.Create.{out as Create·out, creatable, freshState, createOf}
+use Rattle.store.specs.declared.Name.{Name}
+use Rattle.store.specs.declared.Name.the-variants.{TooLong, Nameless, Proper}
 use Rattle.store.specs.State.{wordsTaken, firstOf}
+use Rattle.store.specs.Name.{nameKind, byKind}
 use Rattle.store.specs.Look.{Lent, lent, checked, walkOf, headerOf, headerSound}
 use Rattle.store.specs.Append.{Out, declined, isSaturated, roomToGrow, isCrowded, grows, grownState, stateGrown}
 use Rattle.store.specs.Append.{tableGrown, movedState, recordBytes, standingWritten, appendStanding, newWritten}
@@ -90,6 +92,11 @@ keeps-declined st m n s e = let z : _≡_ {A = ℕ} 0 1 = cc in absurd (omega ar
 keeps-cond : (b : Bool) (x y : Out) → (b ≡ true → Keeps x) → (b ≡ false → Keeps y) → Keeps (cond b x y)
 keeps-cond true x y p q = p refl
 keeps-cond false x y p q = q refl
+
+keeps-kind : (k : Name) (x y z : Out) → Keeps x → Keeps y → Keeps z → Keeps (byKind k x y z)
+keeps-kind TooLong x y z p q r = p
+keeps-kind Nameless x y z p q r = q
+keeps-kind Proper x y z p q r = r
 
 module _ (st : State) (m : Lent) (c : checked st m ≡ true) where
   w : Whole st (length (m .table)) (length (m .keys)) (length (m .lists))
@@ -190,7 +197,9 @@ pub append-whole : (st : State) (m : Lent) (name bytes : List ℕ) (s : State) �
 unfolding appendOf Keeps
 append-whole st m name bytes =
     keeps-cond (checked st m) _ _
-    (λ c. keeps-cond (leb (length name) nameLimit) _ _ (λ e. keeps-met st m c name bytes (walkOf st m name .met)) (λ e. keeps-declined st m 3)) (λ e. keeps-declined st m 2)
+    (λ c. keeps-kind (nameKind st (length name)) _ _ _ (keeps-declined st m 3) (keeps-declined st m 13)
+    (keeps-met st m c name bytes (walkOf st m name .met)))
+    (λ e. keeps-declined st m 2)
 
 -- ---- creation
 

@@ -2,7 +2,7 @@
 use Prim.Native.Nat.{ℕ}
 use mathlib.Core.Path.{_≡_, refl, ap, _∙_}
 use mathlib.Core.Bool.{Bool, true, false, cond}
-use mathlib.Core.List.{List}
+use mathlib.Core.List.{List, []}
 use native.Mathlib.Omega.{arith}
 use lib.ListN.{length}
 use Rattle.limits.specs.Refusals.{one-outcome}
@@ -12,9 +12,16 @@ use Rattle.store.specs.declared.State.{State}
 use Rattle.store.specs.declared.Created.the-variants.{Made, Barred}
 use Rattle.store.specs.declared.Appended.the-variants.{Declined}
 use Rattle.store.specs.Create.{out as creation, creatable, freshState, createOf}
-use Rattle.store.specs.Look.{Lent, reading}
+use Rattle.store.specs.declared.Lookup.{Lookup}
+use Rattle.store.specs.declared.Lookup.the-variants.{Missing}
+use Rattle.store.specs.declared.Answer.the-variants.{Absent}
+use Rattle.store.specs.Look.{Lent, checked, lookupOf, onLookup, onLookupRead, lengthAt, lengthOf, reading, readAt}
+use Rattle.store.specs.Look.{readOf, blockAt, findBlockOf}
 use Rattle.store.specs.Append.{out, declined, appendOf}
 use Rattle.store.specs.Promises.{Promises, Settled}
+use Rattle.store.proofs.Guard.{kind-nameless}
+use Rattle.store.proofs.Cases.{append-13}
+use Rattle.store.proofs.Found.{lookup-nameless}
 use Rattle.store.proofs.Fair.{fair-append, fair-read}
 use Rattle.store.proofs.Kept.{create-whole, append-whole}
 use Rattle.store.proofs.Enters.{append-enters}
@@ -42,6 +49,19 @@ append-refused st m name bytes st′ n e =
     let k = fair-append st m name bytes .kept st′ n e in
     λ i. out ((e ∙ ap (λ (s : State). Declined s n) (k .0)) i) (k .1 i)
 
+nameless-absent : (st : State) (m : Lent) → checked st m ≡ true → (lookupOf st m [] ≡ Missing)
+    × (lengthOf st m [] ≡ Absent)
+    × ((output : List ℕ) → readOf st m [] output ≡ reading Absent output)
+    × ((i : ℕ) → findBlockOf st m [] i ≡ Absent)
+unfolding lengthOf readOf findBlockOf
+nameless-absent st m c =
+    let l = lookup-nameless st m [] c (kind-nameless st 0 refl) in (
+      l,
+      ap (λ (x : Lookup). onLookup x (lengthAt (m .keys))) l,
+      λ output. ap (λ (x : Lookup). onLookupRead x (λ at. readAt st m at output) output) l,
+      λ i. ap (λ (x : Lookup). onLookup x (blockAt st m i)) l,
+    )
+
 pub promises : Promises
 promises = record {
   create-refused = create-refused;
@@ -51,6 +71,8 @@ promises = record {
   create-whole = create-whole;
   append-whole = append-whole;
   append-enters = append-enters;
+  nameless-refused = λ st m bytes c. append-13 st m [] bytes c (kind-nameless st 0 refl);
+  nameless-absent = nameless-absent;
 }
 
 pub settled : Settled

@@ -8,7 +8,7 @@ use mathlib.Core.Option.{Option, none, some}
 use mathlib.Core.List.{List, _++_}
 use lib.Dec.{leb}
 use lib.ListN.{length}
-use Rattle.limits.specs.Limits.{pageSize, nameLimit, recordExtra}
+use Rattle.limits.specs.Limits.{pageSize, recordExtra}
 use Rattle.numbers.specs.LittleEndian.{leBytes}
 use Rattle.spans.specs.Span.{overwrite}
 use Rattle.murmurhash2.specs.Murmur.{murmurHash2}
@@ -29,6 +29,7 @@ use Rattle.store.specs.declared.State.{State}
 use Rattle.store.specs.declared.Appended.{Appended}
 use Rattle.store.specs.declared.Appended.the-variants.{Accepted, Declined}
 use Rattle.store.specs.State.{wholeState, lentBuckets, firstOf}
+use Rattle.store.specs.Name.{nameKind, byKind}
 use Rattle.store.specs.Look.{Lent, lent, checked, walkOf, headerOf, headerSound}
 
 -- RULES V10. The answer, and each lent slice as the call leaves it.
@@ -169,10 +170,11 @@ onMet (Standing at) st m name bytes = appendStanding st m at bytes
 onMet Empty st m name bytes = appendNew st m name bytes
 onMet Lap st m name bytes = cond (isSaturated st) (appendNew st m name bytes) (declined st m 4)
 
--- RULES V1, V11. The call.
+-- RULES V1, V11. The call: the empty name is 13, before anything is looked up.
 unfoldable pub appendOf : State → Lent → List ℕ → List ℕ → Out
-unfolding wholeState walkOf onMet
+unfolding wholeState nameKind walkOf onMet
 appendOf st m name bytes =
     cond (checked st m)
-    (cond (leb (length name) nameLimit) (onMet (walkOf st m name .met) st m name bytes) (declined st m 3))
+    (byKind (nameKind st (length name)) (declined st m 3) (declined st m 13)
+    (onMet (walkOf st m name .met) st m name bytes))
     (declined st m 2)

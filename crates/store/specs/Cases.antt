@@ -7,12 +7,13 @@ use lib.ListN.{replicate}
 use Rattle.limits.specs.Refusals.{answered, refused, created, accepted, aPlace, absent, aLength, aReading, aBlock}
 use Rattle.limits.specs.Refusals.{noSuchBlock, aBucket, noBucket, aCount}
 use Rattle.spans.specs.Span.{overwrite}
+use Rattle.shared_arena_hashmap.specs.declared.Met.the-variants.{Standing, Damaged}
 use Rattle.store.specs.declared.State.{State}
 use Rattle.store.specs.declared.Appended.{Appended}
 use Rattle.store.specs.declared.Appended.the-variants.{Accepted, Declined}
 use Rattle.store.specs.Said.{saidCreated, saidAppended, saidLookup, saidAnswer, saidListed, saidCounted}
 use Rattle.store.specs.Create.{freshState, createOf}
-use Rattle.store.specs.Look.{Lent, lent, lookupOf, lengthOf, readOf, findBlockOf, nextOf, countOf}
+use Rattle.store.specs.Look.{Lent, lent, walkOf, lookupOf, lengthOf, readOf, findBlockOf, nextOf, countOf}
 use Rattle.store.specs.Append.{appendOf}
 
 abbrev sevens : ℕ → List ℕ
@@ -57,9 +58,10 @@ pub said-looked : (saidLookup (lookupOf one lent-one lane-a) ≡ answered aPlace
     × (saidLookup (lookupOf start lent-at-first lane-a) ≡ answered absent [])
     × (saidLookup (lookupOf one (lent [] [] []) lane-a) ≡ refused 2 [])
     × (saidLookup (lookupOf one lent-one (sevens 65536)) ≡ refused 3 [])
+    × (saidLookup (lookupOf one lent-one []) ≡ answered absent [])
     × (saidLookup (lookupOf one broken lane-a) ≡ refused 4 [])
 unfolding createOf appendOf lookupOf
-said-looked = (refl, refl, refl, refl, refl, refl)
+said-looked = (refl, refl, refl, refl, refl, refl, refl)
 
 -- RULES X7.
 pub said-answered : (saidAnswer (lengthOf one lent-one lane-a) ≡ answered aLength (3 ∷ []))
@@ -93,6 +95,7 @@ lent-tight = lent (createOf 1 0 (sevens 2) 64 64 .table) (sevens 64) (sevens 64)
 pub said-appended : (saidAppended (appendOf start lent-at-first lane-a [] .answer) ≡ answered accepted [])
     × (saidAppended (appendOf one (lent [] [] []) lane-a [] .answer) ≡ refused 2 [])
     × (saidAppended (appendOf one lent-one (sevens 65536) [] .answer) ≡ refused 3 [])
+    × (saidAppended (appendOf one lent-one [] [] .answer) ≡ refused 13 [])
     × (saidAppended (appendOf one broken lane-a [] .answer) ≡ refused 4 [])
     × (saidAppended
     (appendOf (stateOf (appendOf tight lent-tight lane-a [] .answer))
@@ -103,4 +106,28 @@ pub said-appended : (saidAppended (appendOf start lent-at-first lane-a [] .answe
     × (saidAppended (appendOf one lent-one lane-b (sevens 25) .answer) ≡ refused 7 [])
     × (saidAppended (appendOf one lent-one lane-b (sevens 24) .answer) ≡ answered accepted [])
 unfolding createOf appendOf
-said-appended = (refl, refl, refl, refl, refl, refl, refl, refl, refl)
+said-appended = (refl, refl, refl, refl, refl, refl, refl, refl, refl, refl)
+
+-- a memory that somebody else wrote: where a lookup of the empty name would start stands a record of that name, or one
+-- with other length bytes, which is no good span
+abbrev older : List ℕ → Lent
+older size = lent (overwrite 1 (0 ∷ []) (lent-one .table)) (overwrite 0 size (lent-one .keys)) (lent-one .lists)
+
+abbrev nameless : Lent
+nameless = older (0 ∷ 0 ∷ [])
+
+abbrev nameless-broken : Lent
+nameless-broken = older (255 ∷ 255 ∷ [])
+
+-- RULES V1, X7. Neither is looked at: by the empty name every lane is absent, and 13 comes before damage
+pub said-nameless : (walkOf one nameless [] .met ≡ Standing 0)
+    × (saidLookup (lookupOf one nameless []) ≡ answered absent [])
+    × (saidAnswer (lengthOf one nameless []) ≡ answered absent [])
+    × (saidAnswer (readOf one nameless [] [] .answer) ≡ answered absent [])
+    × (saidAnswer (findBlockOf one nameless [] 0) ≡ answered absent [])
+    × (saidAppended (appendOf one nameless [] [] .answer) ≡ refused 13 [])
+    × (walkOf one nameless-broken [] .met ≡ Damaged)
+    × (saidLookup (lookupOf one nameless-broken []) ≡ answered absent [])
+    × (saidAppended (appendOf one nameless-broken [] [] .answer) ≡ refused 13 [])
+unfolding createOf appendOf lengthOf readOf findBlockOf
+said-nameless = (refl, refl, refl, refl, refl, refl, refl, refl, refl)

@@ -1,5 +1,6 @@
 pub mod Said
 pub mod State
+pub mod Name
 pub mod Create
 pub mod Look
 pub mod Append

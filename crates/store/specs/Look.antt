@@ -1,12 +1,12 @@
 -- RULES V1 to V9. The calls that change nothing but a lent output: lookup, length, reading, a block found and shown,
--- listing, the number of keys. Each makes the whole-state check first (2), then those by name test the name's length
--- (3), then they look it up (4, or absent).
+-- listing, the number of keys. Each makes the whole-state check first (2), then those by name ask the guard (3, or
+-- absent for the empty name), then they look the name up (4, or absent).
 use Prim.Native.Nat.{ℕ, _-_}
 use mathlib.Core.Bool.{Bool, cond, _&&_}
 use mathlib.Core.List.{List, []}
 use lib.Dec.{leb}
 use lib.ListN.{length}
-use Rattle.limits.specs.Limits.{pageSize, nameLimit}
+use Rattle.limits.specs.Limits.{pageSize}
 use Rattle.spans.specs.Span.{readSpan, overwrite}
 use Rattle.murmurhash2.specs.Murmur.{murmurHash2}
 use Rattle.memory_arena.specs.declared.Arena.{Arena}
@@ -35,6 +35,7 @@ use Rattle.store.specs.declared.Listed.the-variants.{Bucket, NoMore, Sto
 use Rattle.store.specs.declared.Counted.{Counted}
 use Rattle.store.specs.declared.Counted.the-variants.{Keys, Unknown}
 use Rattle.store.specs.State.{wholeState, firstOf}
+use Rattle.store.specs.Name.{nameKind, byKind}
 
 -- RULES A1. The lent memory of a call.
 pub record Lent : Type 0 where
@@ -64,11 +65,13 @@ onMet (Standing at) = At at
 onMet Damaged = Failed 4
 onMet Lap = Missing
 
--- RULES V1, V2. The call.
+-- RULES V1, V2. The call: the empty name is absent, and isn't looked up.
 unfoldable pub lookupOf : State → Lent → List ℕ → Lookup
-unfolding wholeState walkOf
+unfolding wholeState nameKind walkOf
 lookupOf st m name =
-    cond (checked st m) (cond (leb (length name) nameLimit) (onMet (walkOf st m name .met)) (Failed 3)) (Failed 2)
+    cond (checked st m)
+    (byKind (nameKind st (length name)) (Failed 3) Missing (onMet (walkOf st m name .met)))
+    (Failed 2)
 
 -- ---- the calls on a standing lane's list
 

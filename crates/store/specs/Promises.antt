@@ -4,7 +4,7 @@
 use Prim.Native.Nat.{ℕ, _+_, _<_}
 use mathlib.Core.Path.{_≡_}
 use mathlib.Core.Bool.{true}
-use mathlib.Core.List.{List}
+use mathlib.Core.List.{List, []}
 use lib.ListN.{length}
 use Rattle.murmurhash2.specs.Murmur.{murmurHash2}
 use Rattle.shared_arena_hashmap.specs.Buckets.{addressAt, hashAt, emptyAt}
@@ -38,7 +38,7 @@ pub record Entered (st : State) (m : Lent) (name : List ℕ) (st′ : State) (m�
 
 -- ---- the promises
 
--- RULES B7, Q1, X4.
+-- RULES B7, Q1, V1, X4.
 pub record Promises : Type 0 where
   -- "Nothing lent changes on a refusal; the state comes back equal."
   pub create-refused : (capacity seed : ℕ) (table : List ℕ) (keyBytes listBytes n : ℕ)
@@ -61,6 +61,14 @@ pub record Promises : Type 0 where
   -- "A new key goes in the first empty bucket of its probe, after any growth": there always is one
   pub append-enters : (st : State) (m : Lent) (name bytes : List ℕ) (st′ : State) → lookupOf st m name ≡ Missing
       → appendOf st m name bytes .answer ≡ Accepted st′ → Entered st m name st′ (appendOf st m name bytes .memory)
+  -- document 02, Seven: "In appends a name of 0 bytes is now refused as number 13, checked just after number 3 and
+  -- before damage. Lookups with it answer absent", and so does every other call by it, whatever the memory holds
+  pub nameless-refused : (st : State) (m : Lent) (bytes : List ℕ) → checked st m ≡ true
+      → appendOf st m [] bytes ≡ declined st m 13
+  pub nameless-absent : (st : State) (m : Lent) → checked st m ≡ true → (lookupOf st m [] ≡ Missing)
+      × (lengthOf st m [] ≡ Absent)
+      × ((output : List ℕ) → readOf st m [] output ≡ reading Absent output)
+      × ((i : ℕ) → findBlockOf st m [] i ≡ Absent)
 
 -- ---- "that two permitted outcomes coincide is itself proved": two outcomes that meet a call's contract are equal
 

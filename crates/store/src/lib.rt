@@ -1,7 +1,7 @@
 // The store: a lane's name is the key, a list header the value; keys and lists live in two separate arenas, the table in lent words.
 //
 // It promises, for any state, any lent memory and any bytes: each call ends, stays inside what is lent, and answers or refuses by a number of
-// document 01, exactly as specs/ says; a refusal changes no lent byte or word and gives the state back equal. Each contract is one equation: the
+// documents 01 and 02, exactly as specs/ says; a refusal changes no lent byte or word and gives the state back equal. Each contract is one equation: the
 // answer and every lent slice as the call leaves it. It uses limits, numbers, spans, murmurhash2, fastcpy, memory_arena, shared_arena_hashmap
 // and expull.
 pub mod check;
@@ -18,6 +18,7 @@ ghost use Prim.Native.Nat.{_+_, _≤_, _/_};
 ghost use lib.ListN.{length};
 ghost use Rattle.shared_arena_hashmap.specs.Probe.{valuePlace};
 ghost use Rattle.store.specs.State.{firstOf};
+ghost use Rattle.store.specs.Name.{nameKind};
 ghost use Rattle.store.specs.Look.{lent, checked, walkOf, headOf};
 
 // What the store remembers between calls (document 01, "Numbers that bound the store").
@@ -82,6 +83,13 @@ pub enum Listed {
     Stopped(u32),
 }
 
+// What a name is to the store: over the limit, of no bytes, or one that a lane can have.
+pub enum Name {
+    TooLong,
+    Nameless,
+    Proper,
+}
+
 // The number of keys, or a refusal.
 pub enum Counted {
     Keys(usize),
@@ -100,6 +108,19 @@ fn first_bucket(st: State) -> usize
         return st.words / 2 - st.buckets;
     }
     0
+}
+
+// The guard of names, which every call by name asks before it looks anything up.
+fn name_kind(st: State, n: usize) -> Name
+    ensures { λ r. ⌜ r ≡ nameKind st n ⌝ }
+{
+    if limits::NAME_LIMIT < n {
+        return Name::TooLong;
+    }
+    if n == 0 {
+        return Name::Nameless;
+    }
+    Name::Proper
 }
 
 // The walk of a name's lookup, in a store whose state is whole.

@@ -4,6 +4,7 @@ use crate::Counted;
 use crate::Head;
 use crate::Listed;
 use crate::Lookup;
+use crate::Name;
 use crate::Outcome;
 use crate::State;
 use expull::Block;
@@ -34,7 +35,7 @@ fn on_met(met: Met) -> Lookup
     }
 }
 
-// The place of a name's record, or absent.
+// The place of a name's record, or absent; the empty name is absent, and isn't looked up.
 pub fn lookup(st: State, table: &[u32], keys: &[u8], lists: &[u8], name: &[u8]) -> Lookup
     ensures settled { λ r. ⌜ r
         ≡ lookupOf st (lent (now (table .entry)) (now (keys .entry)) (now (lists .entry))) (now (name .entry)) ⌝ }
@@ -43,12 +44,16 @@ pub fn lookup(st: State, table: &[u32], keys: &[u8], lists: &[u8], name: &[u8]) 
     if !crate::check::is_whole_state(st, table.len(), keys.len(), lists.len()) {
         return Lookup::Failed(2);
     }
-    if limits::NAME_LIMIT < name.len() {
-        return Lookup::Failed(3);
+    let kind = crate::name_kind(st, name.len());
+    match kind {
+        Name::TooLong => Lookup::Failed(3),
+        Name::Nameless => Lookup::Missing,
+        Name::Proper => {
+            let w = crate::walk(st, table, keys, lists, name);
+            let met = w.met;
+            on_met(met)
+        }
     }
-    let w = crate::walk(st, table, keys, lists, name);
-    let met = w.met;
-    on_met(met)
 }
 
 // The answer to a lookup that found no record.

@@ -1,6 +1,7 @@
 // The append. Everything is planned before anything is written.
 use crate::Appended;
 use crate::Head;
+use crate::Name;
 use crate::State;
 use expull::Header;
 use memory_arena::Allocated;
@@ -21,7 +22,7 @@ ghost use Rattle.expull.specs.Header.{fresh};
 ghost use Rattle.expull.specs.Append.{writing, appended};
 ghost use Rattle.store.specs.Said.{saidAppended};
 ghost use Rattle.store.specs.State.{firstOf};
-ghost use Rattle.store.specs.Look.{lent, checked};
+ghost use Rattle.store.specs.Look.{lent, checked, walkOf};
 ghost use Rattle.store.specs.Append.{out, roomToGrow, isSaturated, isCrowded, grownState, stateGrown, tableGrown, movedState, appendStanding, Planned, standingWritten, recordBytes, newWritten, appendNew, onMet, appendOf};
 
 fn is_saturated(st: State) -> bool
@@ -240,7 +241,33 @@ fn append_after_lap(
     Appended::Declined(st, 4)
 }
 
-// Appends bytes to the lane of a name, which is entered where it doesn't stand.
+// An append to a name that passed the guard, by what its lookup met.
+fn append_proper(
+    st: State,
+    table: &mut [u32],
+    keys: &mut [u8],
+    lists: &mut [u8],
+    name: &[u8],
+    bytes: &[u8],
+) -> Appended
+    requires { ⌜ (checked st (lent (now table) (now keys) (now lists)) ≡ true) × (length (now name) ≤ nameLimit) ⌝ }
+    ensures { λ r. ⌜ out r (lent (now (table .exit)) (now (keys .exit)) (now (lists .exit)))
+        ≡ onMet
+        (walkOf st (lent (now (table .entry)) (now (keys .entry)) (now (lists .entry))) (now (name .entry)) .met)
+        st (lent (now (table .entry)) (now (keys .entry)) (now (lists .entry))) (now (name .entry))
+        (now (bytes .entry)) ⌝ }
+{
+    let w = crate::walk(st, table, keys, lists, name);
+    let met = w.met;
+    match met {
+        Met::Damaged => Appended::Declined(st, 4),
+        Met::Standing(at) => append_standing(st, table, keys, lists, at, bytes),
+        Met::Empty => append_new(st, table, keys, lists, name, bytes),
+        Met::Lap => append_after_lap(st, table, keys, lists, name, bytes),
+    }
+}
+
+// Appends bytes to the lane of a name, which is entered where it doesn't stand; the empty name is refused.
 pub fn append(
     st: State,
     table: &mut [u32],
@@ -257,15 +284,10 @@ pub fn append(
     if !crate::check::is_whole_state(st, table.len(), keys.len(), lists.len()) {
         return Appended::Declined(st, 2);
     }
-    if limits::NAME_LIMIT < name.len() {
-        return Appended::Declined(st, 3);
-    }
-    let w = crate::walk(st, table, keys, lists, name);
-    let met = w.met;
-    match met {
-        Met::Damaged => Appended::Declined(st, 4),
-        Met::Standing(at) => append_standing(st, table, keys, lists, at, bytes),
-        Met::Empty => append_new(st, table, keys, lists, name, bytes),
-        Met::Lap => append_after_lap(st, table, keys, lists, name, bytes),
+    let kind = crate::name_kind(st, name.len());
+    match kind {
+        Name::TooLong => Appended::Declined(st, 3),
+        Name::Nameless => Appended::Declined(st, 13),
+        Name::Proper => append_proper(st, table, keys, lists, name, bytes),
     }
 }

@@ -1,52 +1,93 @@
--- The refusals in their order, then the walk. Assumes nothing.
+-- The refusals in their order, the guard of names, then the walk. Assumes nothing.
 use mathlib.Core.Bool.{true}
 use mathlib.Core.Path.{_≡_, refl, sym, ap, subst, _∙_}
-use native.Mathlib.Omega.{arith}
 use borrow.Author.Needs.{needs}
 use borrow.Author.Tests.{not-true, not-false}
 use Rattle.store.proofs.Fair.{fair-lookup}
-use Rattle.store.proofs.Found.{lookup-2, lookup-3, lookup-met}
-use Rattle.store.specs.Look.{lent}
+use Rattle.store.proofs.Found.{lookup-2, lookup-3, lookup-nameless, lookup-met}
+use Rattle.store.specs.Look.{Lent, lent, checked}
 use Rattle.store.specs.Said.{saidLookup}
 use Rattle.store.specs.declared.Lookup.{Lookup}
 use Rattle.limits.specs.Refusals.{lookingUp, permitted}
 use Rattle.store.proofs.look.lookup.Statement.{statement}
 use Rattle.store.proofs.look.lookup.Tie as tie
 
+abbrev memory : tie.Start → Lent
+memory s = lent (s .args .table .now) (s .args .keys .now) (s .args .lists .now)
+
+abbrev start : tie.Else1 → tie.Start
+start c = c .before .before .before .before .before .before
+
 is-whole-state-requires : tie.Need-is-whole-state-requires
 is-whole-state-requires c κs = search needs
 
 returns : tie.Need-returns
 returns c =
-    let a = c .before .before .before .before .before .before .args in
-    (sym (lookup-2 (a .st) (lent (a .table .now) (a .keys .now) (a .lists .now)) (a .name .now) (sym (c .before .is-whole-state .ensures) ∙ not-true _ (c .if1 .taken))), refl)
+    let s = c .before .before .before .before .before .before in
+    let e = sym (c .before .is-whole-state .ensures) ∙ not-true _ (c .if1 .taken) in
+    (sym (lookup-2 (s .args .st) (memory s) (s .args .name .now) e), refl)
 
-returns-2 : tie.Need-returns-2
-returns-2 c =
-    let a = c .before .before .before .before .before .before .before .args in
-    (sym (lookup-3 (a .st) (lent (a .table .now) (a .keys .now) (a .lists .now)) (a .name .now) (sym (c .before .before .is-whole-state .ensures) ∙ not-false _ (c .before .if1 .left)) (c .if2 .taken)), refl)
+-- the state is whole
+whole : (c : tie.Else1) → checked (start c .args .st) (memory (start c)) ≡ true
+whole c = sym (c .before .is-whole-state .ensures) ∙ not-false _ (c .if1 .left)
+
+name-kind-requires : tie.Need-name-kind-requires
+name-kind-requires c κs = search needs
+
+enum-told : tie.Need-enum-told
+enum-told c = search needs
+
+enum-told-2 : tie.Need-enum-told-2
+enum-told-2 c = search needs
+
+enum-told-3 : tie.Need-enum-told-3
+enum-told-3 c = search needs
 
 walk-requires : tie.Need-walk-requires
-walk-requires c κs = sym (c .before .before .is-whole-state .ensures) ∙ not-false _ (c .before .if1 .left)
+walk-requires c κs = whole (c .before .before .before)
 
 on-met-requires : tie.Need-on-met-requires
 on-met-requires c κs = search needs
 
+returns-2 : tie.Need-returns-2
+returns-2 c =
+    let d = c .before .before .before in
+    let s = start d in
+    let k = sym (c .before .before .name-kind .ensures) ∙ c .enum-told .given .1 in
+    (sym (lookup-3 (s .args .st) (memory s) (s .args .name .now) (whole d) k), refl)
+
 returns-3 : tie.Need-returns-3
 returns-3 c =
-    let a = c .before .before .before .before .before .before .before .before .before .args in
-    let m = lent (a .table .now) (a .keys .now) (a .lists .now) in
+    let d = c .before .before .before in
+    let s = start d in
+    let k = sym (c .before .before .name-kind .ensures) ∙ c .enum-told2 .given .1 in
+    (sym (lookup-nameless (s .args .st) (memory s) (s .args .name .now) (whole d) k), refl)
+
+returns-4 : tie.Need-returns-4
+returns-4 c =
+    let d = c .before .before .before .before .before in
+    let s = start d in
+    let k = sym (c .before .before .before .before .name-kind .ensures) ∙ c .before .before .enum-told3 .given .1 in
     let e = c .on-met .ensures
-    ∙ sym (lookup-met (a .st) m (a .name .now) _
-    (sym (c .before .before .before .before .is-whole-state .ensures)
-    ∙ not-false _ (c .before .before .before .if1 .left)) (omega arith)
+    ∙ sym (lookup-met (s .args .st) (memory s) (s .args .name .now) _ (whole d) k
     (sym (ap (λ w. w .met) (c .before .walk .ensures)))) in (
       e,
       subst (λ (r : Lookup). permitted lookingUp (saidLookup r) ≡ true) (sym e)
-          (fair-lookup (a .st) m (a .name .now)),
+          (fair-lookup (s .args .st) (memory s) (s .args .name .now)),
     )
 
 pub lookup-spec : {M : Type 1} → statement M
 lookup-spec =
     tie.close
-    (tie.spec is-whole-state-requires returns returns-2 walk-requires on-met-requires returns-3)
+    (tie.spec
+    is-whole-state-requires
+    returns
+    name-kind-requires
+    enum-told
+    enum-told-2
+    enum-told-3
+    walk-requires
+    on-met-requires
+    returns-2
+    returns-3
+    returns-4)
