@@ -99,7 +99,7 @@ pub enum Counted {
 // ---- what the calls share
 
 // The first bucket of the standing table.
-fn first_bucket(st: State) -> usize
+pub fn first_bucket(st: State) -> usize
     requires { ⌜ st .buckets ≤ st .words / 2 ⌝ }
     ensures { λ r. ⌜ r ≡ firstOf st ⌝ }
 {
@@ -124,7 +124,7 @@ fn name_kind(st: State, n: usize) -> Name
 }
 
 // The walk of a name's lookup, in a store whose state is whole.
-fn walk(st: State, table: &[u32], keys: &[u8], lists: &[u8], name: &[u8]) -> Walk
+pub fn walk(st: State, table: &[u32], keys: &[u8], lists: &[u8], name: &[u8]) -> Walk
     requires { ⌜ checked st (lent (now table) (now keys) (now lists)) ≡ true ⌝ }
     ensures { λ r. ⌜ r
         ≡ walkOf st (lent (now (table .entry)) (now (keys .entry)) (now (lists .entry))) (now (name .entry)) ⌝ }

@@ -1,0 +1,4 @@
+pub mod Check
+pub mod Said
+pub mod Promises
+pub mod Cases
