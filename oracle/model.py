@@ -345,6 +345,68 @@ class Store:
             lane = self.lane(at)
             found.append((bytes(self.keys[at + 2:at + 2 + number(self.keys[at:at + 2])]), lane))
 
+    def found_in(self, name):
+        """the bucket in which probing finds a name; None where it doesn't, damage on the way included"""
+        if len(name) == 0:
+            return None
+        L, first = self.s["buckets"], self.first()
+        h = murmur(self.s["seed"], name)
+        for k in range(1, L + 1):
+            i = (h + k) % L
+            at, word = self.table[first + 2 * i:first + 2 * i + 2]
+            if at == NULL:
+                return None
+            if word == h:
+                if not self.record_good(at):
+                    return None
+                if self.keys[at + 2:at + 2 + number(self.keys[at:at + 2])] == name:
+                    return i
+        return None
+
+    def fault_in(self, i, names, keys_met, lists_met):
+        """the first fault of bucket i, 0 for none; notes its name and every byte it takes"""
+        at = self.table[self.first() + 2 * i]
+        if at == NULL:
+            return 0
+        if not self.record_good(at):
+            return 1
+        n = number(self.keys[at:at + 2])
+        name = bytes(self.keys[at + 2:at + 2 + n])
+        if name in names:
+            return 2
+        if self.found_in(name) != i:
+            return 3
+        try:
+            v, b, head, tail, rem = self.header(at)
+        except Refused:
+            return 4
+        try:
+            places = self.blocks(b, head, b - 2)
+        except Refused:
+            return 5
+        if places and tail != places[-1] + block_size(b) - rem:
+            return 6
+        spans = [(keys_met, at, n + 18)] + [(lists_met, p, block_size(3 + k) + 4) for k, p in enumerate(places)]
+        for met, p, size in spans:
+            if any(met[p:p + size]):
+                return 7
+            met[p:p + size] = b"\1" * size
+        names.add(name)
+        return 0
+
+    def brownout(self, marks):
+        """what the check says, with so many bytes of marks"""
+        self.check()
+        needed = (len(self.keys) + len(self.lists) + 7) // 8
+        if marks < needed:
+            raise Refused(8, needed)
+        names, keys_met, lists_met = set(), bytearray(len(self.keys)), bytearray(len(self.lists))
+        for i in range(self.s["buckets"]):
+            fault = self.fault_in(i, names, keys_met, lists_met)
+            if fault:
+                return "bucket %d fault %d" % (i, fault)
+        return "sound" if len(names) == self.s["keys"] else "key count"
+
     def plan(self, b, rem, n):
         """addresses of the blocks that n bytes take, and the arena state after them"""
         page, used = self.s["list_page"], self.s["list_used"]
@@ -469,7 +531,8 @@ report-lane BYTES INDEX
 drift NAME LAST READING
 readings NAME ROOM
 piece NAME GIVEN ROOM
-feed COUNT HELD FED PIECE ROOM END""".split("\n")
+feed COUNT HELD FED PIECE ROOM END
+check MARKBYTES HH""".split("\n")
 COMMANDS = {u.split()[0]: u for u in USAGE}
 HELP = """# a command to a line, words one space apart; an empty line and one that begins with # are passed over
 # NUMBERS are decimal
@@ -737,6 +800,18 @@ class Bench:
         elif piece:
             count, held, fed = len(left), left + bytes(4 - len(left)), fed + len(piece)
         return "%s state %d %s %d kept" % (said, count, held.hex(), fed)
+
+    def check(self, marks, hh):
+        marks = num(marks)
+        if marks > PAGE:
+            raise Fault("output too long: at most 1048576")
+        if not re.fullmatch("[0-9a-f]{2}", hh):
+            raise Fault("not bytes: hex pairs, - or N*HH joined by +, or ' and a name")
+        try:
+            return self.st.brownout(marks) + " zero"
+        except Refused as e:
+            said = "refused %d%s" % (e.number, "" if e.told is None else " %d" % e.told)
+            return said + (" zero" if marks == 0 or hh == "00" else " kept")
 
     def help(self):
         return HELP + "\n" + "\n".join("# " + u for u in USAGE)

@@ -3,8 +3,8 @@ use script::rows;
 
 // A row a command: its number, then how it is written. The tens of the number say whose `play` has its arm: 1
 // bench_write, 2 bench_read, 3 bench_state, 4 bench_areas, 5 bench_lower, 6 bench_report, 7 bench_readings, 8
-// bench_pieces; those below 10 are this program's.
-const TABLE: [u8; 634] = *b"1 lend WORDS KEYBYTES LISTBYTES HH
+// bench_pieces, 9 bench_check; those below 10 are this program's.
+const TABLE: [u8; 656] = *b"1 lend WORDS KEYBYTES LISTBYTES HH
 10 create CAPACITY SEED
 11 append NAME BYTES
 20 lookup NAME
@@ -35,6 +35,7 @@ const TABLE: [u8; 634] = *b"1 lend WORDS KEYBYTES LISTBYTES HH
 71 readings NAME ROOM
 80 piece NAME GIVEN ROOM
 81 feed COUNT HELD FED PIECE ROOM END
+90 check MARKBYTES HH
 ";
 
 // The number of the command that a line is, 0 where it can't be played.

@@ -54,6 +54,7 @@ fn play_same(
         5 => bench_lower::play(k, line, lists, name, output),
         6 => bench_report::play(k, st, line, table, keys, lists, name, output),
         8 => bench_pieces::play(k, st, line, table, keys, lists, name, output, numbers),
+        9 => bench_check::play(k, st, line, table, keys, lists, name, output),
         _ => commands::help(),
     }
 }
