@@ -19,6 +19,7 @@ sys.path.insert(0, HERE)
 from model import FIELDS, NULL, PAGE, Bench, Refused, Store, block_size, le, murmur, number  # noqa: E402
 
 RUN = os.path.join(HERE, "..", "run")
+BATCH = 200  # memories that one run of the testbench plays
 LEFT = 4096  # bytes before a page's end, where an arena of more than a page begins
 
 
@@ -284,9 +285,20 @@ def model(script):
     return out
 
 
+def looks(st):
+    return list(st.table), bytes(st.keys), bytes(st.lists), dict(st.s)
+
+
 def memory(rng):
+    """a memory, and what was done to it: nothing, damage, or it was written by hand"""
     kind = rng.random()
     st = written(rng) if kind < 0.4 else lived(rng, kind > 0.985)
+    before = looks(st)
+    damage(rng, st)
+    return st, "written" if kind < 0.4 else "lived" if looks(st) == before else "damaged"
+
+
+def damage(rng, st):
     what = rng.random()
     if what < 0.15:
         lane_noise(rng, st)
@@ -295,19 +307,18 @@ def memory(rng):
             plant(rng, st, rng.choice((1, 2, 2, 3, 4, 5, 6, 7, 7, 7, 8)))
     elif what < 0.92:
         noise(rng, st)
-    return st
 
 
 def main():
     memories = int(sys.argv[1]) if len(sys.argv) > 1 else 1000
     rng = random.Random(int(sys.argv[2]) if len(sys.argv) > 2 else 1)
-    counts, faults, sound, calls = collections.Counter(), 0, 0, 0
-    for _ in range(0, memories, 50):
+    counts, sound, faults, calls = collections.Counter(), collections.Counter(), 0, 0
+    for start in range(0, memories, BATCH):
         stores, script, at = [], [], []
-        for _ in range(50):
-            st = memory(rng)
+        for _ in range(min(BATCH, memories - start)):
+            st, how = memory(rng)
             lines = memory_lines(st) + check_lines(rng, st)
-            stores.append(st)
+            stores.append((st, how))
             script += lines
             at.append(len(script) - 3)
         theirs, ours = play(script), model(script)
@@ -316,12 +327,12 @@ def main():
                 faults += 1
                 print("differs: %s: testbench %s, model %s" % (script[k], a, b))
         follow = []
-        for st, k in zip(stores, at):
+        for (st, how), k in zip(stores, at):
             said = theirs[k]
             words = said.split(" ")
             counts["fault " + words[3] if words[0] == "bucket" else " ".join(words[:2])] += 1
             if said == "sound zero":
-                sound += 1
+                sound[how] += 1
                 follow.append(memory_lines(st) + call_lines(rng, st))
         script = [line for lines in follow for line in lines]
         theirs, ours = (play(script), model(script)) if script else ([], [])
@@ -332,8 +343,10 @@ def main():
                 print("%s: testbench %s, model %s" % (line, a, b))
     for said, n in sorted(counts.items()):
         print("%7d %s" % (n, said))
-    print("brownout: %d memories checked with three mark areas each, %d called sound and %d lines played on them: %s" % (
-        sum(counts.values()), sound, calls, "%d faults" % faults if faults else "no difference, no 4"))
+    print("brownout: %d memories checked with three mark areas each" % sum(counts.values()))
+    print("brownout: called sound: %d with a history, %d with one and damaged since, %d written by hand; %d lines on them" % (
+        sound["lived"], sound["damaged"], sound["written"], calls))
+    print("brownout: " + ("%d faults" % faults if faults else "no difference, no 4"))
     sys.exit(1 if faults else 0)
 
 
