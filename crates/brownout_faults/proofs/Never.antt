@@ -8,7 +8,7 @@ use native.Mathlib.Omega.{arith}
 use lib.Dec.{leb, eqb}
 use lib.ListN.{length}
 use borrow.Author.Tests.{le-leb, leb-false, eqb-true, eqb-false}
-use Rattle.limits.specs.Limits.{pageSize, nameLimit, freshNumber, linkSize, recordExtra}
+use Rattle.limits.specs.Limits.{pageSize, freshNumber, linkSize, recordExtra}
 use Rattle.limits.specs.Refusals.{numberIn}
 use Rattle.numbers.proofs.Tests.{both, not-both}
 use Rattle.memory_arena.specs.declared.Arena.{Arena}
@@ -33,8 +33,11 @@ use Rattle.store.specs.declared.State.{State}
 use Rattle.store.specs.declared.Lookup.{Lookup}
 use Rattle.store.specs.declared.Lookup.the-variants.{At, Missing, Failed}
 use Rattle.store.specs.declared.Answer.the-variants.{Found, Refused}
+use Rattle.store.specs.declared.Name.{Name}
+use Rattle.store.specs.declared.Name.the-variants.{TooLong, Nameless, Proper}
 use Rattle.store.specs.Said.{saidLookup, saidAnswer, saidListed, saidAppended}
 use Rattle.store.specs.State.{firstOf}
+use Rattle.store.specs.Name.{nameKind, byKind}
 use Rattle.store.specs.Look.{Lent, checked, walkOf, lookupOf, onLookup, onLookupRead, headerOf, headerSound, lengthAt}
 use Rattle.store.specs.Look.{lengthOf, reading, blocksSound, readAt, readOf, onBlock, blockAt, findBlockOf, onNext}
 use Rattle.store.specs.Look.{nextOf}
@@ -100,15 +103,16 @@ module _ (st : State) (m : Lent) (W : checked st m ≡ true) (F : Faultless st m
   looks : (name : List ℕ) (l : Lookup) → lookupOf st m name ≡ l
       → (numberIn (saidLookup l) ≡ 4 → ⊥) × ((x : ℕ) → l ≡ At x → Kept x)
   unfolding lookupOf
-  looks name l e = go (leb (length name) nameLimit) (walkOf st m name .met) refl (rw W at e)
+  looks name l e = go (nameKind st (length name)) (walkOf st m name .met) refl (rw W at e)
     where
-      go : (b : Bool) (x : Met) → walkOf st m name .met ≡ x → cond b (Look·onMet x) (Failed 3) ≡ l
+      go : (k : Name) (x : Met) → walkOf st m name .met ≡ x → byKind k (Failed 3) Missing (Look·onMet x) ≡ l
           → (numberIn (saidLookup l) ≡ 4 → ⊥) × ((y : ℕ) → l ≡ At y → Kept y)
-      go false x q f = (rw (sym f) (λ z. omega arith), λ y g. let z : _≡_ {A = ℕ} 0 1 = cc in absurd (omega arith))
-      go true Empty q f = (rw (sym f) (λ z. omega arith), λ y g. let z : _≡_ {A = ℕ} 0 1 = cc in absurd (omega arith))
-      go true Lap q f = (rw (sym f) (λ z. omega arith), λ y g. let z : _≡_ {A = ℕ} 0 1 = cc in absurd (omega arith))
-      go true Damaged q f = absurd (met-sound name q)
-      go true (Standing x) q f = (
+      go TooLong x q f = (rw (sym f) (λ z. omega arith), λ y g. let z : _≡_ {A = ℕ} 0 1 = cc in absurd (omega arith))
+      go Nameless x q f = (rw (sym f) (λ z. omega arith), λ y g. let z : _≡_ {A = ℕ} 0 1 = cc in absurd (omega arith))
+      go Proper Empty q f = (rw (sym f) (λ z. omega arith), λ y g. let z : _≡_ {A = ℕ} 0 1 = cc in absurd (omega arith))
+      go Proper Lap q f = (rw (sym f) (λ z. omega arith), λ y g. let z : _≡_ {A = ℕ} 0 1 = cc in absurd (omega arith))
+      go Proper Damaged q f = absurd (met-sound name q)
+      go Proper (Standing x) q f = (
         rw (sym f) (λ z. omega arith),
         λ y g. let z : x ≡ y = cc in
             met-standing name y (q ∙ ap Standing z),
@@ -285,12 +289,13 @@ module _ (st : State) (m : Lent) (W : checked st m ≡ true) (F : Faultless st m
 
     never-append : Not4 (appendOf st m name bytes)
     unfolding appendOf
-    never-append = rw W (go (leb (length name) nameLimit) (met-on (walkOf st m name .met) refl))
+    never-append = rw W (go (nameKind st (length name)) (met-on (walkOf st m name .met) refl))
       where
-        go : (b : Bool) → Not4 (onMet (walkOf st m name .met) st m name bytes)
-            → Not4 (cond b (onMet (walkOf st m name .met) st m name bytes) (declined st m 3))
-        go true f = f
-        go false f = λ z. omega arith
+        go : (k : Name) → Not4 (onMet (walkOf st m name .met) st m name bytes)
+            → Not4 (byKind k (declined st m 3) (declined st m 13) (onMet (walkOf st m name .met) st m name bytes))
+        go TooLong f = λ z. omega arith
+        go Nameless f = λ z. omega arith
+        go Proper f = f
 
   pub faultless-never : NoDamage st m
   faultless-never = record {

@@ -1,6 +1,6 @@
 -- Document 02, Eight: "every store with a history as in demand 3 is called sound". Assumes nothing.
 use Prim.Native.Nat.{ℕ, zero, suc, _+_, _-_, _≤_, _<_}
-use mathlib.Core.Path.{_≡_, refl, sym, ap, _∙_, subst}
+use mathlib.Core.Path.{_≡_, refl, sym, ap, _∙_}
 use mathlib.Core.Bool.{Bool, true, false, cond, _&&_, _||_, not}
 use mathlib.Core.Option.{Option, none, some}
 use mathlib.Core.List.{List, [], _∷_}
@@ -26,12 +26,12 @@ use Rattle.history_lanes.proofs.Readings.{lane-blocks}
 use Rattle.history_names.specs.Table.{nameAt, occupied}
 use Rattle.history_names.proofs.Walk.{occupied-append}
 use Rattle.history_names.proofs.Lookup.{empty-bucket, named-shows, named-bucket}
-use Rattle.history.specs.History.{World, Call, Born, play, joined}
+use Rattle.history.specs.History.{World, Call, Born, play}
 use Rattle.history.specs.Sound.{Ghosts, Stands, Sound}
 use Rattle.history.proofs.Records.{record-length}
 use Rattle.history.proofs.Answers.{sound-records, header-is, header-fine, walk-finds}
-use Rattle.history.proofs.Born.{nobody, born-sound, born-empty}
-use Rattle.history.proofs.Told.{Says, Played, played}
+use Rattle.history.proofs.Born.{nobody, born-sound}
+use Rattle.history.proofs.Told.{Played, played}
 use Rattle.brownout_faults.specs.declared.Checked.{Checked}
 use Rattle.brownout_faults.specs.declared.Checked.the-variants.{Sound as Says·Sound}
 use Rattle.brownout_faults.specs.Check.{vacant, recordIn, nameIn, headerIn, nameAmong, foundMet, foundIn, headerGood}
@@ -47,7 +47,7 @@ use Rattle.brownout_history.proofs.Places.{apart-clear, lanes-clear, la
 or-false : (a b : Bool) → a ≡ false → b ≡ false → (a || b) ≡ false
 or-false a b p q = rw (p, q)
 
-module _ {w : World} {G : Ghosts} (S : Sound w G) (some-byte : (k : List ℕ) → Stands G k → 0 < length k) where
+module _ {w : World} {G : Ghosts} (S : Sound w G) where
   abbrev st : State
   st = w .state
 
@@ -116,7 +116,7 @@ module _ {w : World} {G : Ghosts} (S : Sound w G) (some-byte : (k : List ℕ) �
     found : foundIn st m k i ≡ true
     unfolding foundIn
     found = both-true (foundMet (length k) (walkOf st m k .met)) _
-        (ap (foundMet (length k)) met ∙ lt-ltb 0 (length k) (some-byte k stands))
+        (ap (foundMet (length k)) met ∙ lt-ltb 0 (length k) (S .records k stands .some))
         (eq-eqb _ _ (sym (r .1 .looked-at) ∙ here (bucket (r .0) (r .1 .inside))))
       where
         met : walkOf st m k .met ≡ Standing (G .place k)
@@ -264,22 +264,10 @@ module _ {w : World} {G : Ghosts} (S : Sound w G) (some-byte : (k : List ℕ) �
 
 -- ---- the theorem
 
--- today's premise, in one place: the empty name was never accepted. (Request Seven refuses it.)
-abbrev pub NeverNameless : World → List Call → Type 0
-NeverNameless w calls = joined [] calls w ≡ none
-
 module _ (capacity seed : ℕ) (table keys lists : List ℕ) (w : World) (B : Born capacity seed table keys lists w)
-    (calls : List Call) (never : NeverNameless w calls) where
+    (calls : List Call) where
   P : Played w (nobody (roundedDown capacity)) calls
   P = played (born-sound capacity seed table keys lists w B) calls
-
-  nameless : Stands (P .ghosts) [] → ⊥
-  nameless =
-      subst (Says (play calls w) (P .ghosts) []) never (P .says [] none (born-empty capacity seed table keys lists []))
-
-  some-byte : (k : List ℕ) → Stands (P .ghosts) k → 0 < length k
-  some-byte [] M = absurd (nameless M)
-  some-byte (x ∷ k) M = omega arith
 
   -- EIGHT: every store with a history is called sound
   pub history-called-sound : CalledSound w calls
@@ -287,7 +275,7 @@ module _ (capacity seed : ℕ) (table keys lists : List ℕ) (w : World) (B : Bo
   history-called-sound = record {
     called-sound = λ marks h.
         rw (P .sound .whole, le-leb (marksNeeded (play calls w .memory)) (length marks) h)
-        (ap (λ (r : Checked). out r (replicate (length marks) 0)) (sound-verdict (P .sound) some-byte));
+        (ap (λ (r : Checked). out r (replicate (length marks) 0)) (sound-verdict (P .sound)));
     too-short = λ marks h.
         rw (P .sound .whole, lt-leb (marksNeeded (play calls w .memory)) (length marks) h);
   }
