@@ -26,7 +26,7 @@ pub fn clear(marks: &mut [u8])
 }
 
 // Marks place k; whether it was marked already.
-fn mark(marks: &mut [u8], k: usize) -> bool
+pub fn mark(marks: &mut [u8], k: usize) -> bool
     requires { ⌜ k < 8 * length (now marks) ⌝ }
     ensures { λ r. ⌜ out r (now (marks .exit)) ≡ markOne (now (marks .entry)) k ⌝ }
 {

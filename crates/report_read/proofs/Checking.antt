@@ -12,6 +12,7 @@ use borrow.Author.Tests.{eq-eqb, ne-eqb}
 use Rattle.limits.specs.Limits.{nameLimit}
 use Rattle.limits.specs.Refusals.{unreporting, permitted}
 use Rattle.fastcmp.specs.Equal.{equalBytes}
+use Rattle.marks.specs.Bits.{out}
 use Rattle.report_text.specs.Text.{storeLine, termsWord, totalWord, termWord, lenWord, bytesWord, endLine}
 use Rattle.report_text.specs.Reader.{Lines, ended, unended, linesOf, numberIn, bytesIn, Told, lanes, bad, textRead}
 use Rattle.report_text.specs.Values.{hexedOf}
@@ -25,10 +26,12 @@ use Rattle.report_read.specs.Counted.{seenAmong, progress, goodIf, onNum
 use Rattle.report_read.specs.Counted.{totalCounted, nameCounted, endCounted, laneCounted, lengthCounted}
 use Rattle.report_read.specs.Counted.{bytesCounted, lineCounted, endOf, onLine, linesCounted, textCounted}
 use Rattle.report_read.specs.Counted.{checkedOf}
+use Rattle.report_read.specs.Noted.{notedOf, Vouched}
 use Rattle.report_read.specs.Said.{saidChecked}
 use Rattle.report_read.proofs.Lines.{line-long, ended-at, unended-at, next-found}
 use Rattle.report_read.proofs.LineKinds.{bytes-most}
 use Rattle.report_read.proofs.Counted.{counted-is}
+use Rattle.report_read.proofs.Noting.{Notes, notes-start, notes-vouch, notes-on}
 
 -- ---- which kind of line
 
@@ -207,6 +210,12 @@ module _ {t : List ℕ} {p : Progress} {at lines : ℕ} (h : Checking t p at lin
   next-is : e < length t → e + 1 ≡ nextLine t at
   next-is l = next-found t at e s l
 
+  -- the lines from here on are this one and those behind it
+  pub line-here : e < length t → linesOf (drop at t) ≡ ended (take (e - at) (drop at t)) (linesOf (drop (e + 1) t))
+  unfolding part
+  line-here l =
+      ended-at t at (omega arith) ∙ (λ i. ended (sym line-is i) (linesOf (drop (sym (next-is l) i) t)))
+
   pub line-room : e < length t → at + length (take (e - at) (drop at t)) ≤ e
   unfolding part
   line-room l = omega (arith, ap length line-is, line-size)
@@ -244,6 +253,35 @@ module _ {t : List ℕ} {p : Progress} {at lines : ℕ} (h : Checking t p at lin
             ∙ ap (λ (x : Line). onLine x (suc lines) (λ q. linesCounted t q (suc lines) (linesOf (drop (e + 1) t)))) g
             ∙ ap (λ (k : ℕ). linesCounted t q k (linesOf (drop (e + 1) t))) (sym (add-one lines));
       }
+
+-- ---- the loop with its notes
+
+pub record Noting (t : List ℕ) (p : Progress) (at lines : ℕ) (notes : List ℕ) : Type 0 where
+  pub checking : Checking t p at lines
+  pub noted : Notes t p notes (linesOf (drop at t))
+
+pub noting-starts : (t notes : List ℕ) → length notes ≡ 65536 → Noting t (progress 0 0 0 0 0 0) 0 0 notes
+noting-starts t notes n = record { checking = checking-starts t; noted = notes-start t notes n }
+
+module _ {t : List ℕ} {p : Progress} {at lines : ℕ} {notes : List ℕ} (h : Noting t p at lines notes) (e : ℕ)
+    (s : e ≡ lineEnd t at)
+    (l : e < length t)
+    (maybe : Bool)
+    (notes′ : List ℕ)
+    (o : out maybe notes′ ≡ notedOf notes p (take (e - at) (drop at t))) where
+  noted-here : Notes t p notes (ended (take (e - at) (drop at t)) (linesOf (drop (e + 1) t)))
+  noted-here = subst (Notes t p notes) (line-here (h .checking) e s l) (h .noted)
+
+  pub noting-vouch : p .expected ≡ 3 → Vouched maybe t p (take (e - at) (drop at t))
+  noting-vouch x =
+      notes-vouch t (take (e - at) (drop at t)) (linesOf (drop (e + 1) t)) p notes maybe notes′ noted-here o x
+
+  pub noting-on : (q : Progress) → lineCounted t p (take (e - at) (drop at t)) ≡ Good q
+      → Noting t q (e + 1) (lines + 1) notes′
+  noting-on q g = record {
+    checking = checking-on (h .checking) e s l q g;
+    noted = notes-on t (take (e - at) (drop at t)) (linesOf (drop (e + 1) t)) p notes maybe notes′ q noted-here o g;
+  }
 
 -- ---- its numbers
 

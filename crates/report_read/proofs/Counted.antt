@@ -104,24 +104,24 @@ next-behind t at bs l ls len n w b e =
 -- ---- what the two readers know
 
 module _ (t : List ℕ) where
-  abbrev lane-at : List Lane → ℕ
+  abbrev pub lane-at : List Lane → ℕ
   lane-at ls = lanesOn (length ls) t (firstLane t)
 
   -- the lines left are those from a place on
-  abbrev At : ℕ → Lines → Type 0
+  abbrev pub At : ℕ → Lines → Type 0
   At at ls = (at ≤ length t) × (linesOf (drop at t) ≡ ls)
 
-  abbrev Seen : List Lane → Type 0
+  abbrev pub Seen : List Lane → Type 0
   Seen ls = LanesAt t (firstLane t) ls
 
   -- a lane's name was read, and its length
-  abbrev Name : List Lane → List ℕ → Type 0
+  abbrev pub Name : List Lane → List ℕ → Type 0
   Name ls x = (lane-at ls ≤ length t) × (bytesIn termWord (lineAt t (lane-at ls)) ≡ some x)
 
-  abbrev Length : List Lane → ℕ → Type 0
+  abbrev pub Length : List Lane → ℕ → Type 0
   Length ls len = numberIn lenWord (lineAt t (nextLine t (lane-at ls))) ≡ some len
 
-  abbrev Rel : Expects → Progress → Lines → Type 0
+  abbrev pub Rel : Expects → Progress → Lines → Type 0
   Rel aStore p L = (p ≡ progress 0 0 0 0 0 0) × At 0 L
   Rel aTerms p L = (p ≡ progress 1 0 0 0 0 0) × At (nextLine t 0) L
   Rel (aTotal k) p L = (p ≡ progress 2 k 0 0 0 0) × At (nextLine t (nextLine t 0)) L
@@ -133,7 +133,7 @@ module _ (t : List ℕ) where
       × Name ls x × Length ls len
   Rel (nothing ls) p L = (p .expected ≡ 6) × (p .lanes ≡ length ls) × (p .bytes ≡ totalOf ls) × Seen ls
 
-  abbrev LineRel : Option Expects → Line → Lines → Type 0
+  abbrev pub LineRel : Option Expects → Line → Lines → Type 0
   LineRel none Bad L = Unit {0}
   LineRel none (Good q) L = ⊥
   LineRel (some s) Bad L = ⊥
@@ -155,7 +155,7 @@ module _ (t : List ℕ) where
     here : (at : ℕ) → At at (ended l L) → l ≡ lineAt t at
     here at a = sym (whole at a .line-is)
 
-    name-seen : (seen : List Lane) (x : List ℕ) → Seen seen → bytesIn termWord l ≡ some x
+    pub name-seen : (seen : List Lane) (x : List ℕ) → Seen seen → bytesIn termWord l ≡ some x
         → seenAmong (length seen) l t (firstLane t) ≡ named x seen
     name-seen seen x S e =
         let q = bytes-form termWord l x e in
@@ -176,7 +176,7 @@ module _ (t : List ℕ) where
               (record { within = N .0; name = N .1; bytes = ap (bytesIn bytesWord) (sym (here v a)) ∙ e }),
         )
 
-    line-rel : (s : Expects) (p : Progress) → Rel s p (ended l L) → LineRel (lineRead s l) (lineCounted t p l) L
+    pub line-rel : (s : Expects) (p : Progress) → Rel s p (ended l L) → LineRel (lineRead s l) (lineCounted t p l) L
     unfolding lineRead lineCounted storeCounted termsCounted totalCounted laneCounted lengthCounted bytesCounted
         nameCounted endCounted nameTaken endTaken
     line-rel aStore p R =

@@ -1,6 +1,7 @@
 pub mod Lines
 pub mod Places
 pub mod Counted
+pub mod Noted
 pub mod Unhex
 pub mod Said
 pub mod Lane

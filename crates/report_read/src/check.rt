@@ -3,7 +3,7 @@ use report_text::fields;
 use report_text::fields::Decimal;
 use report_text::fields::Hexed;
 ghost use mathlib.Core.Path.{_≡_};
-ghost use mathlib.Core.Bool.{true};
+ghost use mathlib.Core.Bool.{true, false};
 ghost use Prim.Native.Nat.{_+_, _≤_, _<_};
 ghost use lib.ListN.{length};
 ghost use Rattle.limits.specs.Refusals.{unreporting, permitted};
@@ -12,6 +12,8 @@ ghost use Rattle.report_read.specs.Lines.{firstLane};
 ghost use Rattle.report_read.specs.Counted.{seenAmong, storeCounted, termsCounted, totalCounted, nameCounted};
 ghost use Rattle.report_read.specs.Counted.{endCounted, laneCounted, lengthCounted, bytesCounted, lineCounted};
 ghost use Rattle.report_read.specs.Counted.{endOf, checkedOf};
+ghost use Rattle.report_read.specs.Noted.{Vouched, notedOf};
+ghost use Rattle.marks.specs.Bits.{out, markOne};
 ghost use Rattle.report_read.specs.Said.{saidChecked};
 
 // What the next line is to be (0 store=, 1 terms=, 2 total=, 3 term= or end=, 4 len=, 5 bytes=, 6 none), terms= and
@@ -52,6 +54,31 @@ fn is_seen(text: &[u8], lanes: u64, line: &[u8]) -> bool
         left -= 1;
     }
     false
+}
+
+// Whether a name's line was seen before. One whose place in the notes was free wasn't, and the lanes aren't gone
+// through: else a report of many lanes would take time by the square of their number.
+fn was_seen(text: &[u8], p: Progress, line: &[u8], maybe: bool) -> bool
+    requires { ⌜ (maybe ≡ false → seenAmong (p .lanes) (now line) (now text) (firstLane (now text)) ≡ false) ⌝ }
+    ensures { λ r. ⌜ r ≡ seenAmong (p .lanes) (now (line .entry)) (now (text .entry)) (firstLane (now (text .entry))) ⌝ }
+{
+    if !maybe {
+        return false;
+    }
+    is_seen(text, p.lanes, line)
+}
+
+// Notes a line where a name may stand; whether its place was taken already. Equal lines have one place, so a name seen
+// before finds its place taken; an unequal one seldom does.
+fn note(notes: &mut [u8], p: Progress, line: &[u8]) -> bool
+    requires { ⌜ length (now notes) ≡ 65536 ⌝ }
+    ensures { λ r. ⌜ out r (now (notes .exit)) ≡ notedOf (now (notes .entry)) p (now (line .entry)) ⌝ }
+{
+    if p.expected != 3 {
+        return true;
+    }
+    let hash = murmurhash2::murmurhash2(line, 0);
+    marks::mark(notes, hash as usize % 524288)
 }
 
 fn store_line(line: &[u8]) -> Line
@@ -104,7 +131,8 @@ fn total_line(line: &[u8], p: Progress) -> Line
     })
 }
 
-fn name_line(text: &[u8], line: &[u8], p: Progress) -> Line
+fn name_line(text: &[u8], line: &[u8], p: Progress, maybe: bool) -> Line
+    requires { ⌜ Vouched maybe (now text) p (now line) ⌝ }
     ensures { λ r. ⌜ r ≡ nameCounted (now (text .entry)) p (now (line .entry)) ⌝ }
 {
     let h = fields::bytes_in(line, b"term=");
@@ -114,7 +142,7 @@ fn name_line(text: &[u8], line: &[u8], p: Progress) -> Line
     if (limits::NAME_LIMIT as u64) < n {
         return Line::Bad;
     }
-    if is_seen(text, p.lanes, line) {
+    if was_seen(text, p, line, maybe) {
         return Line::Bad;
     }
     Line::Good(Progress {
@@ -144,13 +172,14 @@ fn end_line(p: Progress) -> Line
     })
 }
 
-fn lane_line(text: &[u8], line: &[u8], p: Progress) -> Line
+fn lane_line(text: &[u8], line: &[u8], p: Progress, maybe: bool) -> Line
+    requires { ⌜ Vouched maybe (now text) p (now line) ⌝ }
     ensures { λ r. ⌜ r ≡ laneCounted (now (text .entry)) p (now (line .entry)) ⌝ }
 {
     if fastcmp::fast_short_slice_compare(line, b"end=1") {
         return end_line(p);
     }
-    name_line(text, line, p)
+    name_line(text, line, p, maybe)
 }
 
 fn length_line(line: &[u8], p: Progress) -> Line
@@ -192,8 +221,9 @@ fn bytes_line(line: &[u8], p: Progress) -> Line
 }
 
 // What a line makes of the progress.
-fn any_line(text: &[u8], part: &[u8], p: Progress) -> Line
+fn any_line(text: &[u8], part: &[u8], p: Progress, maybe: bool) -> Line
     requires { ⌜ (p .lanes < 18446744073709551615) × (p .bytes + length (now part) ≤ 18446744073709551615) ⌝ }
+    requires { ⌜ (p .expected ≡ 3 → Vouched maybe (now text) p (now part)) ⌝ }
     ensures { λ r. ⌜ r ≡ lineCounted (now (text .entry)) p (now (part .entry)) ⌝ }
 {
     let expected = p.expected;
@@ -207,7 +237,7 @@ fn any_line(text: &[u8], part: &[u8], p: Progress) -> Line
         return total_line(part, p);
     }
     if expected == 3 {
-        return lane_line(text, part, p);
+        return lane_line(text, part, p, maybe);
     }
     if expected == 4 {
         return length_line(part, p);
@@ -230,10 +260,10 @@ fn rest(p: Progress, lines: u64, n: usize) -> Checked
     Checked::Refused(15, lines + 1)
 }
 
-// Checks a whole text.
-pub fn check(text: &[u8]) -> Checked
-    ensures settled { λ r. ⌜ r ≡ checkedOf (textRead (now (text .entry))) ⌝ }
-    ensures numbered { λ r. ⌜ permitted unreporting (saidChecked r) ≡ true ⌝ }
+// The check, with a place to note names in. What that holds before doesn't matter: it only saves time.
+fn check_noting(text: &[u8], notes: &mut [u8]) -> Checked
+    requires { ⌜ length (now notes) ≡ 65536 ⌝ }
+    ensures { λ r. ⌜ r ≡ checkedOf (textRead (now (text .entry))) ⌝ }
 {
     let n = text.len();
     let mut p = Progress {
@@ -251,7 +281,8 @@ pub fn check(text: &[u8]) -> Checked
         if n <= e {
             return rest(p, lines, n - at);
         }
-        let r = any_line(text, &text[at..e], p);
+        let maybe = note(notes, p, &text[at..e]);
+        let r = any_line(text, &text[at..e], p, maybe);
         let Line::Good(q) = r else {
             return Checked::Refused(15, lines + 1);
         };
@@ -259,4 +290,13 @@ pub fn check(text: &[u8]) -> Checked
         at = e + 1;
         lines += 1;
     }
+}
+
+// Checks a whole text.
+pub fn check(text: &[u8]) -> Checked
+    ensures settled { λ r. ⌜ r ≡ checkedOf (textRead (now (text .entry))) ⌝ }
+    ensures numbered { λ r. ⌜ permitted unreporting (saidChecked r) ≡ true ⌝ }
+{
+    let mut notes = [0u8; 65536];
+    check_noting(text, &mut notes)
 }

@@ -115,13 +115,13 @@ store-due l t s ls e d = go (equalBytes l storeLine) refl e
     go false p e = let z : _≡_ {A = ℕ} 0 1 = cc in absurd (omega arith)
 
 -- a step after another gave something: so did both
-then-some : {A B : Type 0} (o : Option A) (f : A → Option B) (s : B) → andThen o f ≡ some s
+pub then-some : {A B : Type 0} (o : Option A) (f : A → Option B) (s : B) → andThen o f ≡ some s
     → (x : A) × (o ≡ some x) × (f x ≡ some s)
 then-some none f s e = let z : _≡_ {A = ℕ} 0 1 = cc in absurd (omega arith)
 then-some (some x) f s e = (x, refl, e)
 
 -- a test that gave something holds
-provided-some : (b : Bool) (r s : Expects) → provided b r ≡ some s → (b ≡ true) × (r ≡ s)
+pub provided-some : (b : Bool) (r s : Expects) → provided b r ≡ some s → (b ≡ true) × (r ≡ s)
 provided-some true r s e = (refl, cc)
 provided-some false r s e = let z : _≡_ {A = ℕ} 0 1 = cc in absurd (omega arith)
 

@@ -30,7 +30,7 @@ returns-3 c =
     c .total-line .ensures ∙ sym (kind-2 (a .text .now) (a .p) (a .part .now) (c .before .if3 .taken))
 
 lane-line-requires : tie.Need-lane-line-requires
-lane-line-requires c κs = search needs
+lane-line-requires c κs = c .before .before .before .before .before .before .pre .1 (c .if4 .taken)
 
 returns-4 : tie.Need-returns-4
 returns-4 c =

@@ -2,6 +2,7 @@
 use mathlib.Core.Path.{sym, _∙_}
 use native.Mathlib.Omega.{arith}
 use Rattle.report_read.proofs.LineKinds.{name-bad, name-long, name-seen, name-good}
+use Rattle.report_read.proofs.Noting.{vouched-name}
 use borrow.Author.Needs.{needs}
 use Rattle.report_read.proofs.check.name_line.Statement.{statement}
 use Rattle.report_read.proofs.check.name_line.Tie as tie
@@ -31,22 +32,26 @@ returns-2 c =
     sym (name-long (a .p) (a .line .now) (a .text .now) _ (sym (s .bytes-in .ensures) ∙ c .before .before .h .given .1)
     (omega arith))
 
-is-seen-requires : tie.Need-is-seen-requires
-is-seen-requires c κs = search needs
+was-seen-requires : tie.Need-was-seen-requires
+was-seen-requires c κs =
+    let a = c .before .before .before .before .before .before .before .before in
+    let s = c .before .before .before .before in
+    vouched-name (a .args .maybe) (a .args .text .now) (a .args .p) (a .args .line .now) _ (a .pre)
+    (sym (s .bytes-in .ensures) ∙ c .before .before .h .given .1)
 
 returns-3 : tie.Need-returns-3
 returns-3 c =
     let a = c .before .before .before .before .before .before .before .before .before .before .args in
     let s = c .before .before .before .before in
     sym (name-seen (a .p) (a .line .now) (a .text .now) _ (sym (s .before .before .bytes-in .ensures) ∙ s .h .given .1)
-    (omega arith) (sym (c .before .is-seen .ensures) ∙ c .if2 .taken))
+    (omega arith) (sym (c .before .was-seen .ensures) ∙ c .if2 .taken))
 
 returns-4 : tie.Need-returns-4
 returns-4 c =
     let a = c .before .before .before .before .before .before .before .before .before .before .args in
     let s = c .before .before .before .before in
     sym (name-good (a .p) (a .line .now) (a .text .now) _ (sym (s .before .before .bytes-in .ensures) ∙ s .h .given .1)
-    (omega arith) (sym (c .before .is-seen .ensures) ∙ c .if2 .left))
+    (omega arith) (sym (c .before .was-seen .ensures) ∙ c .if2 .left))
 
 pub name-line-spec : {M : Type 1} → statement M
 name-line-spec =
@@ -58,6 +63,6 @@ name-line-spec =
     enum-told
     returns
     returns-2
-    is-seen-requires
+    was-seen-requires
     returns-3
     returns-4)
