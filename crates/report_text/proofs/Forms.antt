@@ -167,8 +167,8 @@ first-form c n cs h z e = go (isDigit c) refl e
         let b : 48 + (c - 48) ≡ c = omega arith in
         let p : 0 < c - 48 = omega (arith, o) in
         sym (
-          ap (λ (x : ℕ). digits x n) (sym k) ∙ digits-behind (suc w) (c - 48) n (d ∷ ds) p e
-              ∙ ap (λ (x : List ℕ). x ++ (d ∷ ds)) (digits-last w (c - 48) (omega arith) ∙ (λ i. b i ∷ []))
+        ap (λ (x : ℕ). digits x n) (sym k) ∙ digits-behind (suc w) (c - 48) n (d ∷ ds) p e
+        ∙ ap (λ (x : List ℕ). x ++ (d ∷ ds)) (digits-last w (c - 48) (omega arith) ∙ (λ i. b i ∷ []))
         )
 
     go : (t : Bool) → isDigit c ≡ t → cond t (numberFrom (10 * 0 + (c - 48)) cs) none ≡ some n
