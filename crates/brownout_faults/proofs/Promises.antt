@@ -17,7 +17,8 @@ use Rattle.brownout_faults.specs.declared.Checked.the-variants.{Sound, F
 use Rattle.brownout_faults.specs.Check.{verdictFrom, verdictOf, marksNeeded, Out, out, checkOf}
 use Rattle.brownout_faults.specs.Check.{faultIn, entries}
 use Rattle.brownout_faults.specs.Promises.{NoDamage, FirstFault, Faultless, Promises}
-use Rattle.brownout_faults.proofs.Faults.{verdict-faultless, faultless-verdict, verdict-first, verdict-miscounted}
+use Rattle.brownout_faults.proofs.Faults.{verdict-faultless, faultless-verdict, verdict-first}
+use Rattle.brownout_faults.proofs.Faults.{verdict-miscounted}
 use Rattle.brownout_faults.proofs.Never.{faultless-never}
 
 -- the verdict is no refusal
@@ -36,7 +37,7 @@ verdict-answers st m (suc n) i k told e =
     go true d f = d f
     go false d f = let z : _≡_ {A = ℕ} 0 1 = cc in absurd (omega arith)
 
-sound-no-refusal : {n told : ℕ} → Sound ≢ Refused n told
+pub sound-no-refusal : {n told : ℕ} → Sound ≢ Refused n told
 sound-no-refusal e = let z : _≡_ {A = ℕ} 0 1 = cc in omega arith
 
 fault-no-refusal : {i fault n told : ℕ} → Faulty i fault ≢ Refused n told

@@ -1,7 +1,7 @@
 -- In which bucket a lookup ends, on any memory: the k-th that it looks at is bucket (hash + k) mod L. Assumes nothing.
 use Prim.Native.Nat.{ℕ, zero, suc, _+_, _-_, _*_, _/_, _%_, _≤_, _<_}
 use mathlib.Core.Path.{_≡_, refl, sym, ap, _∙_}
-use mathlib.Core.Logic.{_⊎_, ⊎-elim}
+use mathlib.Core.Logic.{_⊎_, inl, inr, ⊎-elim}
 use mathlib.Core.Bool.{Bool, true, false, cond}
 use mathlib.Core.Option.{none, some}
 use mathlib.Core.List.{List, [], _∷_}
@@ -9,6 +9,7 @@ use native.Mathlib.Nat.{suc-mul, add-zero, zero-add}
 use native.Mathlib.Numerals.{add-one}
 use native.Mathlib.Omega.{arith}
 use lib.Dec.{eqb}
+use borrow.Author.Tests.{eqb-true}
 use lib.ListN.{length}
 use Rattle.fastcmp.specs.Equal.{equalBytes}
 use Rattle.fastcmp.proofs.Laws.{equal-true}
@@ -22,7 +23,7 @@ use Rattle.shared_arena_hashmap.specs.declared.Walk.{Walk}
 use Rattle.shared_arena_hashmap.specs.Buckets.{addressAt, hashAt, emptyAt}
 use Rattle.shared_arena_hashmap.specs.Probe.{keyAt, goodRecord, seenRecord, seenAt, startOf, nextBucket, onSeen, probe}
 use Rattle.shared_arena_hashmap.specs.Probe.{lookup}
-use Rattle.history_names.specs.Table.{Names, Taken, occupied}
+use Rattle.history_names.specs.Table.{Names, nameAt, Taken, occupied, Reached}
 use Rattle.shared_arena_hashmap.proofs.Room.{next-cases, next-below, start-below}
 use Rattle.history_names.proofs.Walk.{AllTaken, taken-count}
 use Rattle.store.specs.declared.State.{State}
@@ -92,6 +93,25 @@ module _ (t keys : List ℕ) (a : Arena) (first l hash : ℕ) (name : List ℕ) 
       go Broken q w ih g = (i, h, q)
       go Other q w ih g = ih g
 
+  -- a walk that found its name has met no empty bucket before it
+  probe-reached : (g : Names) → ((b : ℕ) → b < l → emptyAt t (first + b) ≡ false → Taken g b)
+      → ((b x : ℕ) → b < l → seen b ≡ Same x → nameAt g b ≡ some name)
+      → (n i k x : ℕ) → i < l → walk n i k .met ≡ Standing x → Reached g l name n i
+  unfolding probe seenAt
+  probe-reached g T N zero i k x h f = let z : _≡_ {A = ℕ} 0 1 = cc in absurd (omega arith)
+  probe-reached g T N (suc n) i k x h f =
+      go (emptyAt t (first + i)) refl (seen i) refl (walk n (nextBucket l i) (k + 1))
+      (probe-reached g T N n (nextBucket l i) (k + 1) x (next-below l i h)) f
+    where
+      go : (v : Bool) → emptyAt t (first + i) ≡ v → (s : Seen) → seen i ≡ s → (w : Walk)
+          → (w .met ≡ Standing x → Reached g l name n (nextBucket l i)) → onSeen s (k + 1) w .met ≡ Standing x
+          → (nameAt g i ≡ some name) ⊎ (Taken g i × Reached g l name n (nextBucket l i))
+      go v p Nothing q w ih f = let z : _≡_ {A = ℕ} 0 1 = cc in absurd (omega arith)
+      go v p (Same y) q w ih f = inl (N i y h q)
+      go v p Broken q w ih f = let z : _≡_ {A = ℕ} 0 1 = cc in absurd (omega arith)
+      go true p Other q w ih f = let r : seen i ≡ Nothing = rw p in let z : _≡_ {A = ℕ} 0 1 = cc in absurd (omega arith)
+      go false p Other q w ih f = inr (T i h p, ih f)
+
   -- a lap has met no empty bucket: so the names g have one in each bucket that it looked at
   probe-lap : (g : Names) → ((b : ℕ) → b < l → emptyAt t (first + b) ≡ false → Taken g b)
       → (n i k : ℕ) → i < l → walk n i k .met ≡ Lap → AllTaken g l n i
@@ -115,6 +135,7 @@ module _ (t keys : List ℕ) (a : Arena) (first l hash : ℕ) (name : List ℕ) 
 module _ (t keys : List ℕ) (a : Arena) (b hash : ℕ) (name : List ℕ) where
   pub record Seen·Same (x : ℕ) : Type 0 where
     pub full : emptyAt t b ≡ false
+    pub hashed : hashAt t b ≡ hash
     pub address : addressAt t b ≡ x
     pub good : goodRecord a keys (addressAt t b) ≡ true
     pub key : keyAt keys (addressAt t b) ≡ name
@@ -122,17 +143,19 @@ module _ (t keys : List ℕ) (a : Arena) (b hash : ℕ) (name : List ℕ) where
   pub same-facts : (x : ℕ) → seenAt t keys a b hash name ≡ Same x → Seen·Same x
   unfolding seenAt seenRecord
   same-facts x e =
-      go (emptyAt t b) refl (eqb (hashAt t b) hash) (goodRecord a keys (addressAt t b)) refl
+      go (emptyAt t b) refl (eqb (hashAt t b) hash) refl (goodRecord a keys (addressAt t b)) refl
       (equalBytes (keyAt keys (addressAt t b)) name) refl e
     where
-      go : (v : Bool) → emptyAt t b ≡ v → (u : Bool) → (r : Bool) → goodRecord a keys (addressAt t b) ≡ r
+      go : (v : Bool) → emptyAt t b ≡ v → (u : Bool) → eqb (hashAt t b) hash ≡ u
+          → (r : Bool) → goodRecord a keys (addressAt t b) ≡ r
           → (q : Bool) → equalBytes (keyAt keys (addressAt t b)) name ≡ q
           → cond v Nothing (cond u (cond r (cond q (Same (addressAt t b)) Other) Broken) Other) ≡ Same x → Seen·Same x
-      go true v u r g q k e = let z : _≡_ {A = ℕ} 0 1 = cc in absurd (omega arith)
-      go false v false r g q k e = let z : _≡_ {A = ℕ} 0 1 = cc in absurd (omega arith)
-      go false v true false g q k e = let z : _≡_ {A = ℕ} 0 1 = cc in absurd (omega arith)
-      go false v true true g false k e = let z : _≡_ {A = ℕ} 0 1 = cc in absurd (omega arith)
-      go false v true true g true k e = record { full = v; address = (cc); good = g; key = equal-true _ _ k }
+      go true v u o r g q k e = let z : _≡_ {A = ℕ} 0 1 = cc in absurd (omega arith)
+      go false v false o r g q k e = let z : _≡_ {A = ℕ} 0 1 = cc in absurd (omega arith)
+      go false v true o false g q k e = let z : _≡_ {A = ℕ} 0 1 = cc in absurd (omega arith)
+      go false v true o true g false k e = let z : _≡_ {A = ℕ} 0 1 = cc in absurd (omega arith)
+      go false v true o true g true k e =
+          record { full = v; hashed = eqb-true _ _ o; address = (cc); good = g; key = equal-true _ _ k }
 
   pub broken-facts : seenAt t keys a b hash name ≡ Broken
       → (emptyAt t b ≡ false) × (goodRecord a keys (addressAt t b) ≡ false)
@@ -153,23 +176,32 @@ module _ (t keys : List ℕ) (a : Arena) (b hash : ℕ) (name : List ℕ) where
 -- ---- a store's lookup
 
 -- the names of n buckets from i on, as the words and bytes say them
-abbrev namesFrom : State → Lent → ℕ → ℕ → Names
+abbrev pub namesFrom : State → Lent → ℕ → ℕ → Names
 namesFrom st m zero i = []
 namesFrom st m (suc n) i = cond (vacant st m i) none (some (nameIn st m i)) ∷ namesFrom st m n (i + 1)
 
 module _ (st : State) (m : Lent) where
-  length-names : (n i : ℕ) → length (namesFrom st m n i) ≡ n
+  pub length-names : (n i : ℕ) → length (namesFrom st m n i) ≡ n
   length-names zero i = refl
   length-names (suc n) i = ap suc (length-names n (i + 1))
 
-  taken-names : (n i j : ℕ) → j < n → vacant st m (i + j) ≡ false → Taken (namesFrom st m n i) j
-  taken-names zero i j h v = absurd (omega arith)
-  taken-names (suc n) i zero h v = let w : vacant st m i ≡ false = rw (add-zero i) at v in (nameIn st m i, rw w)
-  taken-names (suc n) i (suc j) h v =
+  -- the name of bucket i + j
+  pub name-full : (n i j : ℕ) → j < n → vacant st m (i + j) ≡ false → nameAt (namesFrom st m n i) j
+      ≡ some (nameIn st m (i + j))
+  name-full zero i j h v = absurd (omega arith)
+  name-full (suc n) i zero h v = let w : vacant st m i ≡ false = rw (add-zero i) at v in rw (w, add-zero i)
+  name-full (suc n) i (suc j) h v =
       let s : i + suc j ≡ i + 1 + j = omega arith in
-      taken-names n (i + 1) j (omega arith) (rw s at v)
+      rw s (name-full n (i + 1) j (omega arith) (rw s at v))
 
-  count-names : (n i : ℕ) → occupied (namesFrom st m n i) + entries st m i ≡ entries st m (i + n)
+  pub name-none : (n i j : ℕ) → j < n → vacant st m (i + j) ≡ true → nameAt (namesFrom st m n i) j ≡ none
+  name-none zero i j h v = absurd (omega arith)
+  name-none (suc n) i zero h v = let w : vacant st m i ≡ true = rw (add-zero i) at v in rw w
+  name-none (suc n) i (suc j) h v =
+      let s : i + suc j ≡ i + 1 + j = omega arith in
+      name-none n (i + 1) j (omega arith) (rw s at v)
+
+  pub count-names : (n i : ℕ) → occupied (namesFrom st m n i) + entries st m i ≡ entries st m (i + n)
   unfolding entries
   count-names zero i = rw (add-zero i) (zero-add (entries st m i))
   count-names (suc n) i = go (vacant st m i) refl (count-names n (i + 1))
@@ -193,6 +225,7 @@ module _ (st : State) (m : Lent) where
       pub inside : b < st .buckets
       pub looked-at : b ≡ lookedAt st name (walkOf st m name .looked)
       pub full : vacant st m b ≡ false
+      pub hashed : hashAt (m .table) (firstOf st + b) ≡ murmurHash2 (st .seed) name
       pub place : recordIn st m b ≡ x
       pub good : goodIn st m b ≡ true
       pub key : nameIn st m b ≡ name
@@ -210,12 +243,28 @@ module _ (st : State) (m : Lent) where
             inside = r .1;
             looked-at = r .2;
             full = s .full;
+            hashed = s .hashed;
             place = s .address;
             good = s .good;
             key =
                 s .key;
           },
         )
+
+    -- and the way to it, for names that the buckets hold
+    pub walk-reached : (g : Names) → ((b : ℕ) → b < st .buckets → vacant st m b ≡ false
+        → nameAt g b ≡ some (nameIn st m b))
+        → (x : ℕ) → walkOf st m name .met ≡ Standing x
+        → Reached g (st .buckets) name (st .buckets) (startOf (st .buckets) (murmurHash2 (st .seed) name))
+    unfolding walkOf lookup
+    walk-reached g N x e =
+        let h : ℕ = murmurHash2 (st .seed) name in
+        probe-reached (m .table) (m .keys) (st .«key_arena») (firstOf st) (st .buckets) h name g
+        (λ b k v. (nameIn st m b, N b k v))
+        (λ b y k q.
+        let s = same-facts (m .table) (m .keys) (st .«key_arena») (firstOf st + b) h name y q in
+        N b k (s .full) ∙ ap some (s .key))
+        (st .buckets) (startOf (st .buckets) h) 0 x (start-below (st .buckets) h some-bucket) e
 
     pub walk-damaged : walkOf st m name .met ≡ Damaged → (b : ℕ) × (b < st .buckets) × (vacant st m b ≡ false)
         × (goodIn st m b ≡ false)
@@ -236,7 +285,7 @@ module _ (st : State) (m : Lent) where
         let g : Names = namesFrom st m (st .buckets) 0 in
         let z : 0 + st .buckets ≡ st .buckets = omega arith in
         let T : (b : ℕ) → b < st .buckets → vacant st m b ≡ false
-        → Taken g b = λ b k v. taken-names (st .buckets) 0 b k (rw (zero-add b) v) in
+        → Taken g b = λ b k v. (nameIn st m (0 + b), name-full (st .buckets) 0 b k (rw (zero-add b) v)) in
         let b : startOf (st .buckets) h < st .buckets = start-below (st .buckets) h some-bucket in
         let r = probe-lap (m .table) (m .keys) (st .«key_arena») (firstOf st) (st .buckets) h name g T (st .buckets)
         (startOf (st .buckets) h) 0 b e in

@@ -1,6 +1,5 @@
 -- RULES AF16. A row a case: what the check says of small memories, one change each from a sound one. The tables have
--- one
--- or two buckets, the seed is 7, the list pages have 24 bytes, the mark area 8, all 255 before.
+-- one or two buckets, the seed is 7, the list pages have 24 bytes, the mark area 8, all 255 before.
 use Prim.Native.Nat.{ℕ, _*_}
 use mathlib.Core.Path.{_≡_, refl}
 use mathlib.Core.Bool.{false}

@@ -135,8 +135,7 @@ laneMet st m (suc i) p n =
     || (not (vacant st m i) && blockMet m (headerIn st m i) (blockCount (headerIn st m i)) p n)
 
 -- RULES AF10. One of the first k blocks of bucket i's lane overlaps a block met earlier: of an earlier bucket's lane,
--- or
--- an earlier one of its own.
+-- or an earlier one of its own.
 unfoldable pub blocksMeet : State → Lent → ℕ → ℕ → Bool
 unfolding laneMet
 blocksMeet st m i zero = false

@@ -1,3 +1,2 @@
--- `Places`: a lane's blocks by index share no place. `Sound`: a sound store has no fault, and so the theorem.
-pub mod Places
+-- `Sound`: a store with a history lies as brownout_kept's `Laid` says, so it has no fault, and so the theorem.
 pub mod Sound

@@ -1,266 +1,72 @@
 -- Document 02, Eight: "every store with a history as in demand 3 is called sound". Assumes nothing.
-use Prim.Native.Nat.{ℕ, zero, suc, _+_, _-_, _≤_, _<_}
-use mathlib.Core.Path.{_≡_, refl, sym, ap, _∙_}
-use mathlib.Core.Bool.{Bool, true, false, cond, _&&_, _||_, not}
-use mathlib.Core.Option.{Option, none, some}
+use Prim.Native.Nat.{ℕ}
+use mathlib.Core.Path.{_≡_, ap}
 use mathlib.Core.List.{List, [], _∷_}
-use native.Mathlib.Omega.{arith}
-use lib.Dec.{eqb}
-use lib.ListN.{length, take, replicate}
-use lib.Seq.{take-suc, take-all}
-use borrow.Author.Tests.{lt-ltb, le-leb, lt-leb, eq-eqb, eqb-false}
-use Rattle.limits.specs.Limits.{freshNumber, recordExtra}
-use Rattle.numbers.proofs.Tests.{both-true, not-both}
-use Rattle.fastcmp.specs.Equal.{equalBytes}
-use Rattle.fastcmp.proofs.Laws.{equal-not}
-use Rattle.shared_arena_hashmap.specs.declared.Met.the-variants.{Standing}
+use native.Mathlib.Nat.{le-refl}
+use lib.ListN.{length, replicate}
+use borrow.Author.Tests.{le-leb, lt-leb}
+use Rattle.memory_arena.specs.declared.Arena.{Arena}
 use Rattle.shared_arena_hashmap.specs.Power.{roundedDown}
-use Rattle.shared_arena_hashmap.specs.Probe.{keyLength, keyAt}
 use Rattle.expull.specs.declared.Header.{Header}
-use Rattle.expull.specs.Header.{blockSize, blockCount}
-use Rattle.expull.specs.Blocks.{goodBlocks}
-use Rattle.store.specs.declared.State.{State}
-use Rattle.store.specs.Look.{Lent, walkOf, headerOf}
-use Rattle.history_lanes.specs.Lane.{Lane}
-use Rattle.history_lanes.proofs.Readings.{lane-blocks}
-use Rattle.history_names.specs.Table.{nameAt, occupied}
-use Rattle.history_names.proofs.Walk.{occupied-append}
-use Rattle.history_names.proofs.Lookup.{empty-bucket, named-shows, named-bucket}
+use Rattle.history_lanes.specs.Lane.{wideOn, Stack, Tip, Lane}
+use Rattle.history_lanes.proofs.Blocks.{clear-above}
 use Rattle.history.specs.History.{World, Call, Born, play}
-use Rattle.history.specs.Sound.{Ghosts, Stands, Sound}
-use Rattle.history.proofs.Records.{record-length}
-use Rattle.history.proofs.Answers.{sound-records, header-is, header-fine, walk-finds}
+use Rattle.history.specs.Sound.{Ghosts, Sound}
+use Rattle.history.proofs.Answers.{sound-records, header-is, header-fine}
 use Rattle.history.proofs.Born.{nobody, born-sound}
 use Rattle.history.proofs.Told.{Played, played}
 use Rattle.brownout_faults.specs.declared.Checked.{Checked}
 use Rattle.brownout_faults.specs.declared.Checked.the-variants.{Sound as Says·Sound}
-use Rattle.brownout_faults.specs.Check.{vacant, recordIn, nameIn, headerIn, nameAmong, foundMet, foundIn, headerGood}
-use Rattle.brownout_faults.specs.Check.{blocksGood, blockIn, blockWide, tailGood, overlap, recordWide, recordMet}
-use Rattle.brownout_faults.specs.Check.{blockMet, laneMet, blocksMeet, overlapsIn, faultIn, entries, verdictOf}
-use Rattle.brownout_faults.specs.Check.{marksNeeded, out, checkOf}
-use Rattle.brownout_faults.specs.Promises.{Faultless}
-use Rattle.brownout_faults.proofs.Faults.{Clean, fault-vacant, clean-made, faultless-verdict}
-use Rattle.brownout_faults.proofs.Where.{walk-found}
+use Rattle.brownout_faults.specs.Check.{verdictOf, marksNeeded, out, checkOf}
+use Rattle.brownout_faults.proofs.Faults.{faultless-verdict}
+use Rattle.brownout_kept.specs.Laid.{Own, Ends, Chain, Laid}
+use Rattle.brownout_kept.proofs.Fine.{laid-faultless}
 use Rattle.brownout_history.specs.Promises.{CalledSound}
-use Rattle.brownout_history.proofs.Places.{apart-clear, lanes-clear, lane-apart, lane-filled}
 
-or-false : (a b : Bool) → a ≡ false → b ≡ false → (a || b) ≡ false
-or-false a b p q = rw (p, q)
+-- ---- a store with a history lies well
+
+-- blocks that lie one above the other share no place
+stack-own : (ks : List ℕ) → Stack ks → Own ks
+stack-own [] s = tt
+stack-own (x ∷ ks) s = (clear-above x x (wideOn ks) ks (le-refl x) (s .0), stack-own ks (s .1))
+
+tip-own : (h : Header) (ks : List ℕ) → Tip h ks → Own ks
+tip-own h [] t = tt
+tip-own h (x ∷ ks) t = stack-own (x ∷ ks) (t .3)
+
+tip-ends : (h : Header) (ks : List ℕ) → Tip h ks → Ends h ks
+tip-ends h [] t = t
+tip-ends h (x ∷ ks) t = (t .0, t .1, t .2)
+
+lane-chain : {m : List ℕ} {a : Arena} {h : Header} {ks : List ℕ} → Lane m a h ks → Chain m a h ks
+lane-chain {m} {a} {h} {ks} L = record {
+  number = L .number;
+  links = L .links;
+  below = L .below;
+  paged = L .paged;
+  ends = tip-ends h ks (L .tip);
+  own = tip-own h ks (L .tip);
+  stands = L .stands;
+  short = L .short;
+}
 
 module _ {w : World} {G : Ghosts} (S : Sound w G) where
-  abbrev st : State
-  st = w .state
-
-  abbrev m : Lent
-  m = w .memory
-
-  -- ---- a bucket by the name that stands there
-
-  pub record Named (i : ℕ) (k : List ℕ) : Type 0 where
-    pub named : nameAt (G .names) i ≡ some k
-    pub full : vacant st m i ≡ false
-    pub place : recordIn st m i ≡ G .place k
-    pub key : nameIn st m i ≡ k
-    pub wide : recordWide st m i ≡ length k + recordExtra
-    pub header : headerIn st m i ≡ G .header k
-
-  named-facts : (i : ℕ) (k : List ℕ) → nameAt (G .names) i ≡ some k → Named i k
-  named-facts i k e =
-      let p : recordIn st m i ≡ G .place k = named-shows (S .table) i k e .0 in
-      record {
-        named = e;
-        full = named-bucket (S .table) i k e;
-        place = p;
-        key = ap (keyAt (m .keys)) p ∙ sound-records S k (i, e) .1;
-        wide = ap (λ (x : ℕ). keyLength (m .keys) x + recordExtra) p
-            ∙ ap (λ (n : ℕ). n + recordExtra) (record-length (S .records k (i, e)));
-        header = ap (headerOf (m .keys)) p ∙ header-is S k (i, e);
-      }
-
-  -- a bucket is vacant or has a name
-  data Bucket (i : ℕ) : Type 0 where
-    empty : nameAt (G .names) i ≡ none → vacant st m i ≡ true → Bucket i
-    holds : (k : List ℕ) → Named i k → Bucket i
-
-  bucket : (i : ℕ) → i < st .buckets → Bucket i
-  bucket i h = go (nameAt (G .names) i) refl
-    where
-      go : (o : Option (List ℕ)) → nameAt (G .names) i ≡ o → Bucket i
-      go none e = empty e (empty-bucket (S .table) i h e)
-      go (some k) e = holds k (named-facts i k e)
-
-  -- two buckets hold different names
-  other : (i j : ℕ) (k y : List ℕ) → Named i k → Named j y → j < i → y ≡ k → ⊥
-  other i j k y N M h e =
-      let q : j ≡ i = S .table .once k j i (M .named ∙ ap some e) (N .named) in
-      omega arith
-
-  -- ---- the faults of bucket i, which holds the name k
-
-  module _ (i : ℕ) (k : List ℕ) (N : Named i k) (inside : i < st .buckets) where
-    stands : Stands G k
-    stands = (i, N .named)
-
-    lane : Lane (m .lists) (st .«list_arena») (G .header k) (G .blocks k)
-    lane = S .lanes k stands
-
-    first : (n : ℕ) → n ≤ i → nameAmong st m k n ≡ false
-    unfolding nameAmong
-    first zero h = refl
-    first (suc n) h = or-false _ _ (first n (omega arith)) (go (bucket n (omega arith)))
-      where
-        go : Bucket n → (not (vacant st m n) && equalBytes (nameIn st m n) k) ≡ false
-        go (empty e v) = rw v
-        go (holds y M) = rw (M .full) (equal-not (nameIn st m n) k (λ e. other i n k y N M h (sym (M .key) ∙ e)))
-
-    found : foundIn st m k i ≡ true
-    unfolding foundIn
-    found = both-true (foundMet (length k) (walkOf st m k .met)) _
-        (ap (foundMet (length k)) met ∙ lt-ltb 0 (length k) (S .records k stands .some))
-        (eq-eqb _ _ (sym (r .1 .looked-at) ∙ here (bucket (r .0) (r .1 .inside))))
-      where
-        met : walkOf st m k .met ≡ Standing (G .place k)
-        met = walk-finds S k stands
-
-        r : (b : ℕ) × Rattle.brownout_faults.proofs.Where.FoundAt st m (S .table .some-bucket) k (G .place k) b
-        r = walk-found st m (S .table .some-bucket) k (G .place k) met
-
-        here : Bucket (r .0) → r .0 ≡ i
-        here (empty e v) = not-both (vacant st m (r .0)) v (r .1 .full)
-        here (holds y M) =
-            let e : y ≡ k = sym (M .key) ∙ r .1 .key in
-            S .table .once k (r .0) i (M .named ∙ ap some e) (N .named)
-
-    header-good : headerGood st m i ≡ true
-    header-good = rw (N .place) (header-fine S k stands)
-
-    blocks-good : blocksGood st m i ≡ true
-    blocks-good =
-        ap (λ (h : Header). goodBlocks (st .«list_arena») (m .lists) (h .head) (blockCount h)) (N .header)
-        ∙ lane-blocks (m .lists) (st .«list_arena») (G .header k) (G .blocks k) lane (blockCount (G .header k))
-        (omega arith)
-
-    tail-good : tailGood m (G .header k) ≡ true
-    unfolding tailGood
-    tail-good = go (eqb (G .header k .number) freshNumber) refl
-      where
-        go : (b : Bool) → eqb (G .header k .number) freshNumber ≡ b
-            → cond b true (eqb (G .header k .tail) (blockIn m (G .header k) (blockCount (G .header k) - 1) +
-            (blockSize (G .header k .number) - G .header k .remaining))) ≡ true
-        go true e = refl
-        go false e = eq-eqb _ _ (lane-filled (m .lists) (st .«list_arena») (G .header k) (G .blocks k) lane
-            (eqb-false (G .header k .number) freshNumber e))
-
-    record-alone : (n : ℕ) → n ≤ i → recordMet st m n (G .place k) (length k + recordExtra) ≡ false
-    unfolding recordMet
-    record-alone zero h = refl
-    record-alone (suc n) h = or-false _ _ (record-alone n (omega arith)) (go (bucket n (omega arith)))
-      where
-        go : Bucket n → (not (vacant st m n) && overlap (G .place k) (length k + recordExtra) (recordIn st m n)
-            (recordWide st m n)) ≡ false
-        go (empty e v) = rw v
-        go (holds y M) =
-            rw (M .full, M .wide, M .place)
-            (apart-clear (G .place k) (length k + recordExtra) (G .place y) (length y + recordExtra)
-            (S .records-apart k y stands (n, M .named) (λ e. other i n k y N M h (sym e))))
-
-    -- block b of the lane
-    module _ (b : ℕ) (hb : b < blockCount (G .header k)) where
-      abbrev at : ℕ
-      at = blockIn m (G .header k) b
-
-      own-alone : (n : ℕ) → n ≤ b → blockMet m (G .header k) n at (blockWide b) ≡ false
-      unfolding blockMet
-      own-alone zero h = refl
-      own-alone (suc n) h =
-          or-false _ _ (own-alone n (omega arith))
-          (apart-clear at (blockWide b) (blockIn m (G .header k) n) (blockWide n)
-          (lane-apart (m .lists) (st .«list_arena») (G .header k) (G .blocks k) lane n b h hb))
-
-      other-alone : (y : List ℕ) (M : Stands G y) → (k ≡ y → ⊥) → (n : ℕ) → n ≤ blockCount (G .header y)
-          → blockMet m (G .header y) n at (blockWide b) ≡ false
-      unfolding blockMet
-      other-alone y M d zero h = refl
-      other-alone y M d (suc n) h =
-          or-false _ _ (other-alone y M d n (omega arith))
-          (apart-clear at (blockWide b) (blockIn m (G .header y) n) (blockWide n)
-          (lanes-clear (m .lists) (st .«list_arena») (G .header k) (G .header y) (G .blocks k) (G .blocks y) lane
-          (S .lanes y M) (S .lanes-apart k y stands M d) b n hb h))
-
-      lanes-alone : (n : ℕ) → n ≤ i → laneMet st m n at (blockWide b) ≡ false
-      unfolding laneMet
-      lanes-alone zero h = refl
-      lanes-alone (suc n) h = or-false _ _ (lanes-alone n (omega arith)) (go (bucket n (omega arith)))
-        where
-          go : Bucket n → (not (vacant st m n) && blockMet m (headerIn st m n) (blockCount (headerIn st m n)) at
-              (blockWide b)) ≡ false
-          go (empty e v) = rw v
-          go (holds y M) =
-              rw (M .full)
-              (ap (λ (h : Header). blockMet m h (blockCount h) at (blockWide b)) (M .header)
-              ∙ other-alone y (n, M .named) (λ e. other i n k y N M h (sym e)) (blockCount (G .header y)) (omega arith))
-
-    lane-alone : (n : ℕ) → n ≤ blockCount (G .header k) → blocksMeet st m i n ≡ false
-    unfolding blocksMeet
-    lane-alone zero h = refl
-    lane-alone (suc n) h =
-        rw (N .header)
-        (or-false _ _ (lane-alone n (omega arith)) (or-false _ _ (lanes-alone n h i (omega arith))
-        (own-alone n h n (omega arith))))
-
-    alone : overlapsIn st m i ≡ false
-    unfolding overlapsIn
-    alone =
-        or-false (recordMet st m i (recordIn st m i) (recordWide st m i)) _
-        (rw (N .wide, N .place) (record-alone i (omega arith)))
-        (ap (λ (h : Header). blocksMeet st m i (blockCount h)) (N .header)
-        ∙ lane-alone (blockCount (G .header k)) (omega arith))
-
-    named-clean : Clean st m i
-    named-clean = record {
-      good = rw (N .place) (sound-records S k stands .0);
-      first = rw (N .key) (first i (omega arith));
-      found = rw (N .key) found;
-      header = header-good;
-      blocks = blocks-good;
-      tail = rw (N .header) tail-good;
-      alone = alone;
-    }
-
-  -- ---- the verdict
-
-  bucket-clean : (i : ℕ) → i < st .buckets → faultIn st m i ≡ 0
-  bucket-clean i h = go (bucket i h)
-    where
-      go : Bucket i → faultIn st m i ≡ 0
-      go (empty e v) = fault-vacant st m i v
-      go (holds k N) = clean-made st m i (N .full) (named-clean i k N h)
-
-  entries-count : (i : ℕ) → i ≤ st .buckets → entries st m i ≡ occupied (take i (G .names))
-  unfolding entries
-  entries-count zero h = refl
-  entries-count (suc i) h =
-      rw (take-suc (G .names) i none (omega (arith, S .table .long)))
-      (go (bucket i h) (entries-count i (omega arith)) ∙ sym
-      (occupied-append (take i (G .names)) (nameAt (G .names) i ∷ [])))
-    where
-      go : Bucket i → entries st m i ≡ occupied (take i (G .names))
-          → cond (vacant st m i) (entries st m i) (suc (entries st m i))
-          ≡ occupied (take i (G .names)) + occupied (nameAt (G .names) i ∷ [])
-      go (empty e v) ih = rw (v, e) (omega (arith, ih))
-      go (holds k N) ih = rw (N .full, N .named) (omega (arith, ih))
-
-  sound-faultless : Faultless st m
-  sound-faultless = record {
-    clean = bucket-clean;
-    counted =
-        S .counted
-        ∙ sym (entries-count (st .buckets) (omega arith)
-        ∙ ap occupied (take-all (st .buckets) (G .names) (omega (arith, S .table .long))));
+  sound-laid : Laid (w .state) (w .memory) (record { names = G .names; place = G .place; blocks = G .blocks })
+  sound-laid = record {
+    whole = S .whole;
+    table = S .table;
+    counted = S .counted;
+    good = λ k M. sound-records S k M .0;
+    key = λ k M. sound-records S k M .1;
+    named = λ k M. S .records k M .some;
+    header = header-fine S;
+    records-apart = S .records-apart;
+    chain = λ k M. rw (header-is S k M) (lane-chain (S .lanes k M));
+    chains-apart = S .lanes-apart;
   }
 
-  pub sound-verdict : verdictOf st m ≡ Says·Sound
-  sound-verdict = faultless-verdict st m sound-faultless
+  sound-verdict : verdictOf (w .state) (w .memory) ≡ Says·Sound
+  sound-verdict = faultless-verdict (w .state) (w .memory) (laid-faultless sound-laid)
 
 -- ---- the theorem
 
