@@ -2,11 +2,13 @@
 use Prim.Native.Nat.{ℕ, _+_, _≤_, _<_}
 use mathlib.Core.Path.{_≡_, refl, sym, ap, _∙_, subst}
 use mathlib.Core.Logic.{inl, inr, _≢_}
-use mathlib.Core.Bool.{true, false≢true}
+use mathlib.Core.Bool.{Bool, true, false, false≢true}
 use mathlib.Core.Option.{Option, none, some}
-use mathlib.Core.List.{List, []}
+use mathlib.Core.List.{List, [], _++_}
 use native.Mathlib.Omega.{arith}
+use lib.Dec.{leb}
 use lib.ListN.{length}
+use borrow.Author.Tests.{leb-true, leb-false}
 use Rattle.limits.specs.Limits.{nameLimit}
 use Rattle.numbers.proofs.Tests.{same-test}
 use Rattle.murmurhash2.specs.Murmur.{murmurHash2}
@@ -14,8 +16,10 @@ use Rattle.shared_arena_hashmap.specs.Power.{roundedDown}
 use Rattle.store.specs.declared.Name.{Name}
 use Rattle.store.specs.declared.Name.the-variants.{TooLong, Nameless, Proper}
 use Rattle.store.specs.declared.Lookup.the-variants.{Failed}
+use Rattle.store.specs.declared.Answer.the-variants.{Found}
+use Rattle.store.specs.declared.Outcome.the-variants.{Block}
 use Rattle.store.specs.Name.{nameKind, byKind}
-use Rattle.store.specs.Look.{walkOf, lookupOf}
+use Rattle.store.specs.Look.{walkOf, lookupOf, findBlockOf}
 use Rattle.store.specs.Append.{Out}
 use Rattle.store.proofs.Guard.{kind-long}
 use Rattle.store.proofs.Found.{lookup-3}
@@ -37,6 +41,7 @@ use Rattle.history.proofs.Born.{nobody, born-sound, born-empty}
 use Rattle.history.proofs.Told.{Says, Counts, Played, played}
 use Rattle.history.proofs.Shape.{lane-due}
 use Rattle.history.proofs.Readings.{reads-as}
+use Rattle.history.proofs.Stays.{found-stays, failed-block}
 use Rattle.history.proofs.Listed.{has-names}
 use Rattle.history.proofs.Numbers.{due-of-listed, never-these, number-due}
 use Rattle.history.proofs.Frames.{leaves-alone}
@@ -185,6 +190,37 @@ module _ (capacity seed : ℕ) (table keys lists : List ℕ) (w : World) (B : Bo
   refused-unchanged calls (listsFrom i) f = refl
   refused-unchanged calls countsKeys f = refl
 
+  -- a block stays where it is
+  pub blocks-stay : (calls more : List Call) (name : List ℕ) (i at n : ℕ)
+      → findBlockOf (play calls w .state) (play calls w .memory) name i ≡ Found (Block at n)
+      → (k : ℕ) × (findBlockOf (play (calls ++ more) w .state) (play (calls ++ more) w .memory) name i
+      ≡ Found (Block at k))
+  blocks-stay calls more name i at n e = go (joined name calls w) refl (says calls name)
+    where
+      H : Played w (nobody (roundedDown capacity)) calls
+      H = history calls
+
+      v : World
+      v = play calls w
+
+      Later : World → Type 0
+      Later u = (k : ℕ) × (findBlockOf (u .state) (u .memory) name i ≡ Found (Block at k))
+
+      go : (o : Option (List ℕ)) → joined name calls w ≡ o → Says v (H .ghosts) name o → Later (play (calls ++ more) w)
+      go none q s = absurd (nowhere (leb (length name) nameLimit) refl)
+        where
+          nowhere : (b : Bool) → leb (length name) nameLimit ≡ b → ⊥
+          nowhere true f =
+              let p = subst (ReadsAs v name) q (reads-back calls name (leb-true _ _ f)) .no-block i in
+              let z : _≡_ {A = ℕ} 0 1 = cc in omega arith
+          nowhere false f =
+              let p = failed-block v name i 3 (long-never calls name (leb-false _ _ f) .1) in
+              let z : _≡_ {A = ℕ} 0 1 = cc in omega arith
+      go (some bs) q s =
+          let P = played (H .sound) more in
+          subst Later (sym (play-more calls more w))
+          (found-stays (H .sound) (P .sound) (P .stays) name (s .0) i at n e)
+
   -- a lookup looks at no more than one bucket more than there are names, in a table of any length
   pub walk-few : (calls : List Call) (name : List ℕ)
       → walkOf (play calls w .state) (play calls w .memory) name .looked ≤ play calls w .state .keys + 1
@@ -213,6 +249,7 @@ module _ (capacity seed : ℕ) (table keys lists : List ℕ) (w : World) (B : Bo
     whole = history calls .sound .whole;
     names-exact = names-exact calls;
     names-joined = names-joined calls;
+    blocks-stay = blocks-stay calls;
     play-more = λ more. play-more calls more w;
     log-more = λ more. log-more calls more w;
   }

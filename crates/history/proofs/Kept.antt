@@ -115,6 +115,7 @@ pub record Took (w : World) (G : Ghosts) (name bytes : List ℕ) (w′ : World) 
   pub kept : (j : List ℕ) → Stands G j → Stands ghosts j
   pub only : (j : List ℕ) → Stands ghosts j → (j ≡ name) ⊎ Stands G j
   pub others : (j : List ℕ) → (j ≡ name → ⊥) → Stands G j → bytesOf w′ ghosts j ≡ bytesOf w G j
+  pub others-blocks : (j : List ℕ) → (j ≡ name → ⊥) → Stands G j → ghosts .blocks j ≡ G .blocks j
   pub stood : Stands G name → (bytesOf w′ ghosts name ≡ bytesOf w G name ++ bytes) × (w′ .state .keys ≡ w .state .keys)
   pub fresh-one : (Stands G name → ⊥) → (bytesOf w′ ghosts name ≡ bytes) × (w′ .state .keys ≡ suc (w .state .keys))
   pub leaves : Leaves w G name bytes w′ ghosts
@@ -271,6 +272,7 @@ module _ {w : World} {G : Ghosts} (S : Sound w G) where
           kept = E .kept;
           only = λ j m. inr (E .only j m);
           others = L .others;
+          others-blocks = λ j f m. updated-other (G .blocks) name (standing-after .0) j f;
           stood = λ m. (L .own, refl);
           fresh-one = λ f. absurd (f M);
           leaves = standing-leaves (E .names);
@@ -407,6 +409,7 @@ module _ {w : World} {G : Ghosts} (S : Sound w G) where
           kept = λ j m. N .1 .kept j (E .kept j m);
           only = only;
           others = L .others;
+          others-blocks = λ j f m. updated-other (G .blocks) name (new-after .0) j f;
           stood = λ m. absurd (M m);
           fresh-one = λ f. (L .own, omega arith);
           leaves = new-leaves (N .0) (subst EnteredAt a (N .1 .one));

@@ -5,7 +5,7 @@ use mathlib.Core.Path.{_≡_, refl, sym, ap, _∙_, subst}
 use mathlib.Core.Logic.{inl, inr, ⊎-elim}
 use mathlib.Core.Bool.{Bool, true, false, cond, false≢true}
 use mathlib.Core.Option.{Option, none, some}
-use mathlib.Core.List.{List, [], _∷_, _++_}
+use mathlib.Core.List.{List, [], _∷_, _++_, append-assoc}
 use native.Mathlib.Omega.{arith}
 use lib.ListN.{length, length-append}
 use Rattle.fastcmp.specs.Equal.{equalBytes}
@@ -75,6 +75,25 @@ pub record Counts (w : World) (G : Ghosts) (ns : List (List ℕ)) : Type 0 where
   pub only : (j : List ℕ) → among j ns ≡ true → Stands G j
   pub once : (j : List ℕ) → among j ns ≡ true → times j ns ≡ 1
 
+-- a list's blocks before, and later: they are the oldest of those then
+abbrev pub Grown : List ℕ → List ℕ → Type 0
+Grown ks ks′ = (newer : List ℕ) × (ks′ ≡ newer ++ ks)
+
+-- each name that stood stands, and its blocks are where they were
+abbrev pub Stays : Ghosts → Ghosts → Type 0
+Stays G G′ = (j : List ℕ) → Stands G j → Stands G′ j × Grown (G .blocks j) (G′ .blocks j)
+
+stays-same : (G : Ghosts) → Stays G G
+stays-same G j m = (m, ([], refl))
+
+stays-on : (G G′ G″ : Ghosts) → Stays G G′ → Stays G′ G″ → Stays G G″
+stays-on G G′ G″ A B j m =
+    let a = A j m in
+    let b = B j (a .0) in
+    let x : List ℕ = a .1 .0 in
+    let y : List ℕ = b .1 .0 in
+    (b .0, (y ++ x, b .1 .1 ∙ ap (λ (l : List ℕ). y ++ l) (a .1 .1) ∙ sym (append-assoc y x (G .blocks j))))
+
 -- ---- an append
 
 -- what it leaves: a sound store, in which stands what had stood and what it adds to the log
@@ -85,11 +104,13 @@ record Step (w : World) (G : Ghosts) (name bytes : List ℕ) (o : Out) : Type 0 
       → Says (left o) ghosts j (joinedIn j (cond (isAccepted (o .answer)) (entry name bytes ∷ []) []) x)
   counts : (ns : List (List ℕ)) → Counts w G ns
       → Counts (left o) ghosts (namesIn (cond (isAccepted (o .answer)) (entry name bytes ∷ []) []) ns)
+  stays : Stays G ghosts
 
 step-declined : {w : World} {G : Ghosts} → Sound w G → (name bytes : List ℕ) (n : ℕ)
     → Step w G name bytes (declined (w .state) (w .memory) n)
 unfolding joinedIn namesIn
-step-declined {w} {G} S name bytes n = record { ghosts = G; sound = S; says = λ j x s. s; counts = λ ns c. c }
+step-declined {w} {G} S name bytes n =
+    record { ghosts = G; sound = S; says = λ j x s. s; counts = λ ns c. c; stays = stays-same G }
 
 module _ {w : World} {G : Ghosts} (S : Sound w G) (name bytes : List ℕ) (w′ : World) (T : Took w G name bytes w′) where
   own-says : (x : Option (List ℕ)) → Says w G name x → Says w′ (T .ghosts) name (joinedOn x bytes)
@@ -109,6 +130,19 @@ module _ {w : World} {G : Ghosts} (S : Sound w G) (name bytes : List ℕ) (w′ 
           rw (equal-same j name e)
           (subst (λ (j : List ℕ). Says w G j x → Says w′ (T .ghosts) j (joinedOn x bytes)) (sym e) (own-says x) s)
       go (no e) = rw (equal-not j name e) (other-says j e x s)
+
+  took-stays : Stays G (T .ghosts)
+  took-stays j m = go (decide-name j name)
+    where
+      own : Stands G name → Stands (T .ghosts) name × Grown (G .blocks name) (T .ghosts .blocks name)
+      own n =
+          let L = T .leaves in
+          (T .new, (L .list .newer, L .list .grown ∙ ap (λ (l : List ℕ). L .list .newer ++ l) (L .list-standing n .1)))
+
+      go : Dec (j ≡ name) → Stands (T .ghosts) j × Grown (G .blocks j) (T .ghosts .blocks j)
+      go (yes e) =
+          subst (λ (j : List ℕ). Stands G j → Stands (T .ghosts) j × Grown (G .blocks j) (T .ghosts .blocks j)) (sym e) own m
+      go (no e) = (T .kept j m, ([], T .others-blocks j e m))
 
   took-counts : (ns : List (List ℕ)) → Counts w G ns → Counts w′ (T .ghosts) (withName name ns)
   took-counts ns C = go (among name ns) refl
@@ -153,6 +187,7 @@ step-took S name bytes w′ T = record {
   sound = T .sound;
   says = took-says S name bytes w′ T;
   counts = took-counts S name bytes w′ T;
+  stays = took-stays S name bytes w′ T;
 }
 
 step : {w : World} {G : Ghosts} → Sound w G → (name bytes : List ℕ) → Step w G name bytes (appendIn w name bytes)
@@ -169,17 +204,27 @@ record CallStep (w : World) (G : Ghosts) (c : Call) : Type 0 where
   sound : Sound (after c w) ghosts
   says : (j : List ℕ) (x : Option (List ℕ)) → Says w G j x → Says (after c w) ghosts j (joinedIn j (logged c w) x)
   counts : (ns : List (List ℕ)) → Counts w G ns → Counts (after c w) ghosts (namesIn (logged c w) ns)
+  stays : Stays G ghosts
 
 call-step : {w : World} {G : Ghosts} → Sound w G → (c : Call) → CallStep w G c
 unfolding joinedIn namesIn
-call-step S (appends name bytes) = let P = step S name bytes in record { ghosts = P .ghosts; sound = P .sound; says = P .says; counts = P .counts }
-call-step {w} {G} S (looksUp name) = record { ghosts = G; sound = S; says = λ j x s. s; counts = λ ns c. c }
-call-step {w} {G} S (asksLength name) = record { ghosts = G; sound = S; says = λ j x s. s; counts = λ ns c. c }
-call-step {w} {G} S (reads name output) = record { ghosts = G; sound = S; says = λ j x s. s; counts = λ ns c. c }
-call-step {w} {G} S (findsBlock name i) = record { ghosts = G; sound = S; says = λ j x s. s; counts = λ ns c. c }
-call-step {w} {G} S (showsBlock at n) = record { ghosts = G; sound = S; says = λ j x s. s; counts = λ ns c. c }
-call-step {w} {G} S (listsFrom i) = record { ghosts = G; sound = S; says = λ j x s. s; counts = λ ns c. c }
-call-step {w} {G} S countsKeys = record { ghosts = G; sound = S; says = λ j x s. s; counts = λ ns c. c }
+call-step S (appends name bytes) =
+    let P = step S name bytes in
+    record { ghosts = P .ghosts; sound = P .sound; says = P .says; counts = P .counts; stays = P .stays }
+call-step {w} {G} S (looksUp name) =
+    record { ghosts = G; sound = S; says = λ j x s. s; counts = λ ns c. c; stays = stays-same G }
+call-step {w} {G} S (asksLength name) =
+    record { ghosts = G; sound = S; says = λ j x s. s; counts = λ ns c. c; stays = stays-same G }
+call-step {w} {G} S (reads name output) =
+    record { ghosts = G; sound = S; says = λ j x s. s; counts = λ ns c. c; stays = stays-same G }
+call-step {w} {G} S (findsBlock name i) =
+    record { ghosts = G; sound = S; says = λ j x s. s; counts = λ ns c. c; stays = stays-same G }
+call-step {w} {G} S (showsBlock at n) =
+    record { ghosts = G; sound = S; says = λ j x s. s; counts = λ ns c. c; stays = stays-same G }
+call-step {w} {G} S (listsFrom i) =
+    record { ghosts = G; sound = S; says = λ j x s. s; counts = λ ns c. c; stays = stays-same G }
+call-step {w} {G} S countsKeys =
+    record { ghosts = G; sound = S; says = λ j x s. s; counts = λ ns c. c; stays = stays-same G }
 
 -- what a whole history leaves
 pub record Played (w : World) (G : Ghosts) (calls : List Call) : Type 0 where
@@ -188,10 +233,11 @@ pub record Played (w : World) (G : Ghosts) (calls : List Call) : Type 0 where
   pub says : (j : List ℕ) (x : Option (List ℕ)) → Says w G j x
       → Says (play calls w) ghosts j (joinedIn j (logOf calls w) x)
   pub counts : (ns : List (List ℕ)) → Counts w G ns → Counts (play calls w) ghosts (namesIn (logOf calls w) ns)
+  pub stays : Stays G ghosts
 
 pub played : {w : World} {G : Ghosts} → Sound w G → (calls : List Call) → Played w G calls
 unfolding play logOf joinedIn namesIn
-played {w} {G} S [] = record { ghosts = G; sound = S; says = λ j x s. s; counts = λ ns c. c }
+played {w} {G} S [] = record { ghosts = G; sound = S; says = λ j x s. s; counts = λ ns c. c; stays = stays-same G }
 played {w} {G} S (c ∷ calls) =
     let P = call-step S c in
     let Q = played (P .sound) calls in
@@ -202,4 +248,5 @@ played {w} {G} S (c ∷ calls) =
       says = λ j x s.
           rw (joined-more j (logged c w) later x) (Q .says j (joinedIn j (logged c w) x) (P .says j x s));
       counts = λ ns n. rw (names-more (logged c w) later ns) (Q .counts (namesIn (logged c w) ns) (P .counts ns n));
+      stays = stays-on G (P .ghosts) (Q .ghosts) (P .stays) (Q .stays);
     }

@@ -10,7 +10,9 @@ use mathlib.Core.List.{List, [], _++_}
 use lib.ListN.{length}
 use Rattle.limits.specs.Limits.{nameLimit}
 use Rattle.store.specs.declared.Lookup.the-variants.{Failed}
-use Rattle.store.specs.Look.{checked, lookupOf}
+use Rattle.store.specs.declared.Answer.the-variants.{Found}
+use Rattle.store.specs.declared.Outcome.the-variants.{Block}
+use Rattle.store.specs.Look.{checked, lookupOf, findBlockOf}
 use Rattle.history.specs.History.{World, Call, appends, accepts, after, play, logOf, joined, isJoined}
 use Rattle.history.specs.History.{among, acceptedNames}
 use Rattle.history.specs.Due.{due}
@@ -18,7 +20,7 @@ use Rattle.history.specs.Numbers.{numberOf, dueOf, numbersOf, isOneOf}
 use Rattle.history.specs.Promises.{ReadsAs, AnswersDue, HasNames}
 use Rattle.history.specs.Frames.{LeavesAlone}
 
--- RULES Y3 to Y8.
+-- RULES Y3 to Y8, Y13.
 pub record Demand3 (w : World) (calls : List Call) : Type 0 where
   -- "From a fresh store, after any calls, each lane reads as its accepted appends joined, worked out afresh from the
   -- history; a name never accepted is absent"
@@ -47,6 +49,11 @@ pub record Demand3 (w : World) (calls : List Call) : Type 0 where
   -- "the number of distinct accepted names": it is the number of keys, and listing tells each of them once and no other
   pub names-exact : HasNames (play calls w) (acceptedNames calls w)
   pub names-joined : (name : List ℕ) → among name (acceptedNames calls w) ≡ isJoined (joined name calls w)
+  -- and no block moves: where a block was found, it is found after any more calls
+  pub blocks-stay : (more : List Call) (name : List ℕ) (i at n : ℕ)
+      → findBlockOf (play calls w .state) (play calls w .memory) name i ≡ Found (Block at n)
+      → (k : ℕ) × (findBlockOf (play (calls ++ more) w .state) (play (calls ++ more) w .memory) name i
+      ≡ Found (Block at k))
   -- and a history goes on where it stopped: the world, and the log of accepted appends
   pub play-more : (more : List Call) → play (calls ++ more) w ≡ play more (play calls w)
   pub log-more : (more : List Call) → logOf (calls ++ more) w ≡ logOf calls w ++ logOf more (play calls w)

@@ -75,6 +75,8 @@ record Step (m : List ℕ) (a : Arena) (h : Header) (ks bs m′ : List ℕ) (a�
   fwd : (js : List ℕ) → Below (usedEnd a) js → TipClear ks js → TipClear ks′ js
   back : (q n : ℕ) → q + n ≤ usedEnd a → Clear q n ks → Clear q n ks′
   older : (q n : ℕ) → Clear q n ks′ → Clear q n ks
+  newer : List ℕ
+  grown : ks′ ≡ newer ++ ks
   grows : usedEnd a ≤ usedEnd a′
   len : length m′ ≡ length m
 
@@ -91,6 +93,8 @@ step-none m a h ks = record {
   fwd = λ js b t. t;
   back = λ q n u c. c;
   older = λ q n c. c;
+  newer = [];
+  grown = refl;
   grows = le-refl (usedEnd a);
   len = refl;
 }
@@ -109,6 +113,8 @@ step-join m a h ks bs m′ a′ h′ ks′ cs m″ a″ h″ ks″ A B = record 
   fwd = λ js b t. B .fwd js (below-up (usedEnd a) (usedEnd a′) js (A .grows) b) (A .fwd js b t);
   back = λ q n u c. B .back q n (le-trans u (A .grows)) (A .back q n u c);
   older = λ q n c. A .older q n (B .older q n c);
+  newer = B .newer ++ A .newer;
+  grown = B .grown ∙ ap (λ (l : List ℕ). B .newer ++ l) (A .grown) ∙ sym (append-assoc (B .newer) (A .newer) ks);
   grows = le-trans (A .grows) (B .grows);
   len = B .len ∙ A .len;
 }
@@ -167,6 +173,8 @@ module _ (cs m : List ℕ) (a : Arena) (h : Header) (x : ℕ) (ks : List ℕ) (L
     fwd = λ js b t. t;
     back = λ q n u c. c;
     older = λ q n c. c;
+    newer = [];
+    grown = refl;
     grows = le-refl (usedEnd a);
     len = length-overwrite (h .tail) cs m;
   }
@@ -251,6 +259,8 @@ take-step m a h [] v a′ L z S = record {
   fwd = λ js b t. clear-above (usedEnd a) v (wideOn []) js (S .above) b;
   back = λ q n u c. (inl (le-trans u (S .above)), tt);
   older = λ q n c. tt;
+  newer = v ∷ [];
+  grown = refl;
   grows = omega (arith, S .above, S .end);
   len = refl;
 }
@@ -285,6 +295,8 @@ take-step m a h (x ∷ ks) v a′ L z S =
       fwd = λ js b t. clear-above (usedEnd a) v (wideOn (x ∷ ks)) js (S .above) b;
       back = λ q n u c. (inl (le-trans u (S .above)), c);
       older = λ q n c. c .1;
+      newer = v ∷ [];
+      grown = refl;
       grows = omega (arith, S .above, S .end);
       len = length-overwrite (h .tail) (leBytes linkSize v) m;
     }
@@ -447,6 +459,8 @@ lane-appended m a h ks bs w L e =
         fwd = S .fwd;
         back = S .back;
         older = S .older;
+        newer = S .newer;
+        grown = S .grown;
         grows = S .grows;
         len = S .len;
       },

@@ -141,6 +141,9 @@ pub record After (m : List ℕ) (a : Arena) (h : Header) (ks bs m′ : List ℕ)
   pub older : (q n : ℕ) → Clear q n ks′ → Clear q n ks
   pub grows : usedEnd a ≤ usedEnd a′
   pub len : length m′ ≡ length m
+  -- and no block moves: those before it are the oldest of those after it
+  pub newer : List ℕ
+  pub grown : ks′ ≡ newer ++ ks
 
 -- the arena's state that it leaves, where it fits
 abbrev pub arenaOf : Option Writing → Option Arena

@@ -100,7 +100,7 @@ module _ (w : World) (calls : List Call) (D : Demand3 w calls) (name : List ℕ)
   now = play calls w
 
   -- a name that accepted appends brought is within the limit, and reads back
-  stands : (bs : List ℕ) → joined name calls w ≡ some bs → ReadsBack now name bs
+  pub stands : (bs : List ℕ) → joined name calls w ≡ some bs → ReadsBack now name bs
   stands bs e = go (leb (length name) nameLimit) refl
     where
       go : (b : Bool) → leb (length name) nameLimit ≡ b → ReadsBack now name bs
@@ -109,7 +109,7 @@ module _ (w : World) (calls : List Call) (D : Demand3 w calls) (name : List ℕ)
           let p = D .long-never name (leb-false _ _ f) .0 in
           let z : _≡_ {A = ℕ} 0 1 = cc in absurd (omega arith)
 
-  missing : joined name calls w ≡ none → length name ≤ nameLimit → lookupOf (now .state) (now .memory) name ≡ Missing
+  pub missing : joined name calls w ≡ none → length name ≤ nameLimit → lookupOf (now .state) (now .memory) name ≡ Missing
   missing e s = go (joined name calls w) e (D .reads-back name s)
     where
       go : (o : Option (List ℕ)) → o ≡ none → ReadsAs now name o → lookupOf (now .state) (now .memory) name ≡ Missing
@@ -202,7 +202,7 @@ module _ (capacity seed : ℕ) (table keys lists : List ℕ) (w : World) (B : Bo
   demand = demand-3 capacity seed table keys lists w B
 
   -- calls more
-  front-calls : (done more : List Call) (got : List ℕ) → Front got (laneOf (joined name done w))
+  pub front-calls : (done more : List Call) (got : List ℕ) → Front got (laneOf (joined name done w))
       → Front got (laneOf (joined name (done ++ more) w))
   front-calls done more got F =
       let e : joined name (done ++ more) w ≡ joinedIn name (logOf more (play done w)) (joined name done w) =
@@ -212,7 +212,7 @@ module _ (capacity seed : ℕ) (table keys lists : List ℕ) (w : World) (B : Bo
       (front-log name got (logOf more (play done w)) (joined name done w) F)
 
   -- a piece more
-  front-piece : (done : List Call) (got output : List ℕ) → Front got (laneOf (joined name done w))
+  pub front-piece : (done : List Call) (got output : List ℕ) → Front got (laneOf (joined name done w))
       → Front (got ++ nextPiece (play done w) name got output) (laneOf (joined name done w))
   front-piece done got output F =
       let n : ℕ = length output in

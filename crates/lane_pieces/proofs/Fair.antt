@@ -7,7 +7,7 @@ use mathlib.Core.List.{List}
 use native.Mathlib.Omega.{arith}
 use lib.Dec.{leb, eqb}
 use lib.ListN.{length}
-use Rattle.limits.specs.Refusals.{lookingUp, readingPiece, permitted}
+use Rattle.limits.specs.Refusals.{lookingUp, readingPiece, isAmong, refusalNumbers, permitted}
 use Rattle.memory_arena.specs.declared.Arena.{Arena}
 use Rattle.expull.specs.Header.{laneLength}
 use Rattle.expull.specs.Blocks.{goodBlocks}
@@ -59,12 +59,11 @@ fair-at a keys lists given at output =
     (fair-kept output (Refused 2 0) refl))
     (fair-kept output (Refused 4 0) refl)
 
-pub fair-piece : (st : State) (m : Lent) (name : List ℕ) (given : ℕ) (output : List ℕ)
-    → Fair output (pieceOf st m name given output)
-unfolding pieceOf
-fair-piece st m name given output = go (lookupOf st m name) (fair-lookup st m name)
+-- a lookup's numbers are among a piece's
+pub lookup-number : (n : ℕ) → isAmong n (refusalNumbers lookingUp) ≡ true
+    → isAmong n (refusalNumbers readingPiece) ≡ true
+lookup-number n h = wider (eqb n 2) (eqb n 3) (eqb n 4) (eqb n 8) h
   where
-    -- a lookup's numbers are among a piece's
     wider : (a b c d : Bool) → (a || (b || (c || false))) ≡ true → (a || (b || (c || (d || false)))) ≡ true
     wider true b c d h = refl
     wider false true c d h = refl
@@ -72,8 +71,13 @@ fair-piece st m name given output = go (lookupOf st m name) (fair-lookup st m na
     wider false false false true h = refl
     wider false false false false h = h
 
+pub fair-piece : (st : State) (m : Lent) (name : List ℕ) (given : ℕ) (output : List ℕ)
+    → Fair output (pieceOf st m name given output)
+unfolding pieceOf
+fair-piece st m name given output = go (lookupOf st m name) (fair-lookup st m name)
+  where
     go : (l : Lookup) → permitted lookingUp (saidLookup l) ≡ true
         → Fair output (onLookup l (λ at. pieceAt (st .«list_arena») (m .keys) (m .lists) given at output) output)
     go (At at) h = fair-at (st .«list_arena») (m .keys) (m .lists) given at output
     go Missing h = fair-kept output Absent refl
-    go (Failed n) h = fair-kept output (Refused n 0) (wider (eqb n 2) (eqb n 3) (eqb n 4) (eqb n 8) h)
+    go (Failed n) h = fair-kept output (Refused n 0) (lookup-number n h)

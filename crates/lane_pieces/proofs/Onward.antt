@@ -45,7 +45,7 @@ held-on i (suc k) = rw (add-suc, ← suc-add) (omega (arith, held-more i k, held
 
 -- ---- from block i on, they are the lane's own
 
-next-own : (m : List ℕ) (head i : ℕ) → nextPlace m i (blockPlace m head i) ≡ blockPlace m head (suc i)
+pub next-own : (m : List ℕ) (head i : ℕ) → nextPlace m i (blockPlace m head i) ≡ blockPlace m head (suc i)
 unfolding nextPlace blockPlace
 next-own m head i = refl
 

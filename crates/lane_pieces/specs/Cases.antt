@@ -16,22 +16,22 @@ use Rattle.store.specs.Append.{Out as Outcome, appendOf}
 use Rattle.lane_pieces.specs.Piece.{Out, blockHolding, blocksMet, pieceOf}
 use Rattle.lane_pieces.specs.Said.{saidPieced}
 
-abbrev sevens : ℕ → List ℕ
+abbrev pub sevens : ℕ → List ℕ
 sevens n = replicate n 7
 
-abbrev stateOf : Appended → State
+abbrev pub stateOf : Appended → State
 stateOf (Accepted st) = st
 stateOf (Declined st n) = st
 
-abbrev appended : Outcome
+abbrev pub appended : Outcome
 appended =
     appendOf (freshState 0 18 64 64 1) (lent (createOf 1 0 (sevens 18) 64 64 .table) (sevens 64) (sevens 64)) (65 ∷ [])
     (1 ∷ 2 ∷ 3 ∷ 4 ∷ 5 ∷ 6 ∷ 7 ∷ 8 ∷ 9 ∷ [])
 
-abbrev nine : State
+abbrev pub nine : State
 nine = stateOf (appended .answer)
 
-abbrev lent-nine : Lent
+abbrev pub lent-nine : Lent
 lent-nine = appended .memory
 
 -- the same with the first block's link overwritten, so that the second block is no good span; and with its header's

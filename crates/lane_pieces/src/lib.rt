@@ -36,7 +36,7 @@ pub enum Pieced {
 }
 
 // The smaller of two numbers.
-fn least(a: u64, b: u64) -> u64
+pub fn least(a: u64, b: u64) -> u64
     ensures { λ r. ⌜ r ≡ min a b ⌝ }
 {
     if a < b {
@@ -79,7 +79,7 @@ pub fn block_holding(g: u64) -> u32
 // ---- blocks on from one of them
 
 // Whether the blocks from `first` on, which lies at a place, and before `end` are good spans with their links.
-pub fn are_good_on(lists: &[u8], arena: Arena, first: u32, end: u32, place: u32) -> bool
+fn are_good_on(lists: &[u8], arena: Arena, first: u32, end: u32, place: u32) -> bool
     requires { ⌜ (sensible arena (length (now lists)) ≡ true) × (end ≤ numberLimit) ⌝ }
     ensures { λ r. ⌜ r ≡ goodOn arena (now (lists .entry)) first place (end - first) ⌝ }
 {
@@ -98,7 +98,7 @@ pub fn are_good_on(lists: &[u8], arena: Arena, first: u32, end: u32, place: u32)
 
 // Copies n bytes behind the first `skip` ones of block `first`, which lies at a place, to the front of the output. They
 // end before block `end`. Answers where the last block lies that it came to.
-pub fn copy_on(
+fn copy_on(
     lists: &[u8],
     first: u32,
     end: u32,
@@ -215,7 +215,7 @@ fn piece_at(
 }
 
 // The answer to a lookup that found no record.
-fn not_found(found: Lookup) -> Pieced
+pub fn not_found(found: Lookup) -> Pieced
     ensures { λ r. ⌜ r ≡ notFound found ⌝ }
 {
     match found {

@@ -1,0 +1,2 @@
+-- The theorem of specs/Promises.antt.
+pub mod Places

@@ -1,0 +1,3 @@
+pub mod PieceOn
+pub mod Promises
+pub mod Cases
