@@ -10,7 +10,8 @@ sys.path.insert(0, os.path.dirname(os.path.abspath(__file__)))
 import report  # noqa: E402
 
 PAGE = 1048576
-ARENA = 4293918720
+SIZES = (65536, 131072, 262144, 524288, 1048576)
+OUTPUT = 1048576
 WORDS = 2 * 4194304
 NULL = 0xFFFFFFFF
 M = 0x5BD1E995
@@ -99,37 +100,38 @@ def feed(count, array, fed, piece, room, end):
 
 # ---- arenas
 
-def capacity(length, page):
-    return max(0, min(PAGE, length - page * PAGE))
+def capacity(size, length, page):
+    return max(0, min(size, length - page * size))
 
 
-def lendable(length):
-    return 1 <= length <= ARENA
+def lendable(size, length):
+    return 1 <= length <= (2 ** 32 // size - 1) * size
 
 
-def arena_ok(length, page, used):
-    return lendable(length) and page < -(-length // PAGE) and used <= capacity(length, page)
+def arena_ok(size, length, page, used):
+    return (size in SIZES and lendable(size, length) and page < -(-length // size)
+            and used <= capacity(size, length, page))
 
 
-def good(page, used, at, n):
-    p, place = at // PAGE, at % PAGE
+def good(size, page, used, at, n):
+    p, place = at // size, at % size
     if p > page:
         return False
-    return place + n <= (used if p == page else PAGE)
+    return place + n <= (used if p == page else size)
 
 
-def allocate(length, page, used, n):
+def allocate(size, length, page, used, n):
     """address, page, used; None for no room"""
-    if used + n <= capacity(length, page):
-        return page * PAGE + used, page, used + n
-    if n <= capacity(length, page + 1):
-        return (page + 1) * PAGE, page + 1, n
+    if used + n <= capacity(size, length, page):
+        return page * size + used, page, used + n
+    if n <= capacity(size, length, page + 1):
+        return (page + 1) * size, page + 1, n
     return None
 
 
 # ---- the store
 
-FIELDS = "seed words key_bytes list_bytes buckets end keys key_page key_used list_page list_used".split()
+FIELDS = "seed words key_bytes list_bytes buckets end keys key_page key_used list_page list_used page_size".split()
 
 
 class Refused(Exception):
@@ -158,26 +160,28 @@ class Store:
         self.table, self.keys, self.lists = [], bytearray(), bytearray()
         self.s = dict.fromkeys(FIELDS, 0)
 
-    def create(self, cap, seed):
+    def create(self, cap, seed, size):
         words, k, l = len(self.table), len(self.keys), len(self.lists)
-        if cap == 0 or not lendable(k) or not lendable(l) or words % 2 or words > WORDS:
+        if size not in SIZES:
+            raise Refused(1)
+        if cap == 0 or not lendable(size, k) or not lendable(size, l) or words % 2 or words > WORDS:
             raise Refused(1)
         rounded = 1 << (cap.bit_length() - 1)
         if words < 2 * rounded:
             raise Refused(1)
         for i in range(rounded):
             self.table[2 * i], self.table[2 * i + 1] = NULL, 0
-        self.s = dict(zip(FIELDS, [seed, words, k, l, rounded, 0, 0, 0, 0, 0, 0]))
+        self.s = dict(zip(FIELDS, [seed, words, k, l, rounded, 0, 0, 0, 0, 0, 0, size]))
 
     def check(self):
         s = self.s
-        L = s["buckets"]
+        L, size = s["buckets"], s["page_size"]
         ok = (
             (s["words"], s["key_bytes"], s["list_bytes"]) == (len(self.table), len(self.keys), len(self.lists))
-            and lendable(s["key_bytes"]) and lendable(s["list_bytes"]) and s["words"] % 2 == 0 and s["words"] <= WORDS
+            and s["words"] % 2 == 0 and s["words"] <= WORDS
             and L >= 1 and L & (L - 1) == 0 and L <= s["words"] // 2 and s["keys"] <= L
-            and arena_ok(s["key_bytes"], s["key_page"], s["key_used"])
-            and arena_ok(s["list_bytes"], s["list_page"], s["list_used"])
+            and arena_ok(size, s["key_bytes"], s["key_page"], s["key_used"])
+            and arena_ok(size, s["list_bytes"], s["list_page"], s["list_used"])
         )
         if not ok:
             raise Refused(2)
@@ -186,10 +190,10 @@ class Store:
         return len(self.table) - 2 * self.s["buckets"] if self.s["end"] else 0
 
     def key_good(self, at, n):
-        return good(self.s["key_page"], self.s["key_used"], at, n)
+        return good(self.s["page_size"], self.s["key_page"], self.s["key_used"], at, n)
 
     def list_good(self, at, n):
-        return good(self.s["list_page"], self.s["list_used"], at, n)
+        return good(self.s["page_size"], self.s["list_page"], self.s["list_used"], at, n)
 
     def record_good(self, at):
         return self.key_good(at, 2) and self.key_good(at, 18 + number(self.keys[at:at + 2]))
@@ -197,7 +201,7 @@ class Store:
     def probe(self, name, nameless):
         """place of the record, 'empty' or 'lap'; for the empty name, which isn't looked up, what is given as nameless"""
         self.check()
-        if len(name) > 65535:
+        if len(name) > 65535 or len(name) + 18 > self.s["page_size"]:
             raise Refused(3)
         if len(name) == 0:
             raise nameless
@@ -414,7 +418,7 @@ class Store:
         places = []
         while n > 0:
             b += 1
-            got = allocate(len(self.lists), page, used, block_size(b) + 4)
+            got = allocate(self.s["page_size"], len(self.lists), page, used, block_size(b) + 4)
             if got is None:
                 raise Refused(7)
             at, page, used = got
@@ -482,7 +486,7 @@ class Store:
             raise Refused(4)
         if saturated and not room:
             raise Refused(5)
-        record = allocate(len(self.keys), s["key_page"], s["key_used"], len(name) + 18)
+        record = allocate(s["page_size"], len(self.keys), s["key_page"], s["key_used"], len(name) + 18)
         if record is None:
             raise Refused(6)
         plan = self.plan(2, 0, len(data))
@@ -502,7 +506,7 @@ class Fault(Exception):
 
 
 USAGE = """lend WORDS KEYBYTES LISTBYTES HH
-create CAPACITY SEED
+create CAPACITY SEED [SIZE]
 append NAME BYTES
 lookup NAME
 length NAME
@@ -521,9 +525,9 @@ vint N
 unvint BYTES
 equal A B
 copy A B
-allocate PAGE USED LENGTH N
-get PAGE USED LENGTH PLACE N
-put PAGE USED LENGTH PLACE BYTES
+allocate PAGE USED LENGTH N [SIZE]
+get PAGE USED LENGTH PLACE N [SIZE]
+put PAGE USED LENGTH PLACE BYTES [SIZE]
 help
 report ROOM
 unreport BYTES
@@ -620,8 +624,8 @@ class Bench:
         self.st.lists = bytearray([int(hh, 16)]) * l
         return "lent"
 
-    def create(self, cap, seed):
-        self.st.create(num(cap), num(seed, NULL))
+    def create(self, cap, seed, size=str(PAGE)):
+        self.st.create(num(cap), num(seed, NULL), num(size))
         return "created"
 
     def append(self, name, b):
@@ -636,7 +640,7 @@ class Bench:
 
     def read(self, name, room):
         name, room = data(name), num(room)
-        if room > PAGE:
+        if room > OUTPUT:
             raise Fault("output too long: at most 1048576")
         try:
             got = self.st.read(name, room)
@@ -705,36 +709,38 @@ class Bench:
             raise Refused(9)
         return "copied"
 
-    def allocate(self, page, used, length, n):
-        page, used, length, n = num(page), num(used), num(length), num(n)
+    def allocate(self, page, used, length, n, size=str(PAGE)):
+        page, used, length, n, size = num(page), num(used), num(length), num(n), num(size)
         self.lists(length)
-        if n == 0 or n > PAGE:
-            raise Refused(9)
-        if not arena_ok(length, page, used):
+        if size not in SIZES:
             raise Refused(10)
-        got = allocate(length, page, used, n)
+        if n == 0 or n > size:
+            raise Refused(9)
+        if not arena_ok(size, length, page, used):
+            raise Refused(10)
+        got = allocate(size, length, page, used, n)
         return "no room" if got is None else "at %d %d %d" % got
 
-    def get(self, page, used, length, place, n):
-        page, used, length, place, n = num(page), num(used), num(length), num(place, NULL), num(n)
+    def get(self, page, used, length, place, n, size=str(PAGE)):
+        page, used, length, place, n, size = num(page), num(used), num(length), num(place, NULL), num(n), num(size)
         area = self.lists(length)
-        if n > PAGE:
+        if n > OUTPUT:
             raise Fault("output too long: at most 1048576")
-        if not arena_ok(length, page, used) or not good(page, used, place, n):
+        if not arena_ok(size, length, page, used) or not good(size, page, used, place, n):
             raise Refused(10)
         return shown(area[place:place + n])
 
-    def put(self, page, used, length, place, b):
-        page, used, length, place, b = num(page), num(used), num(length), num(place, NULL), data(b)
+    def put(self, page, used, length, place, b, size=str(PAGE)):
+        page, used, length, place, b, size = num(page), num(used), num(length), num(place, NULL), data(b), num(size)
         self.lists(length)
-        if not arena_ok(length, page, used) or not good(page, used, place, len(b)):
+        if not arena_ok(size, length, page, used) or not good(size, page, used, place, len(b)):
             raise Refused(10)
         self.st.lists[place:place + len(b)] = b
         return "put"
 
     def report(self, room):
         room = num(room)
-        if room > PAGE:
+        if room > OUTPUT:
             raise Fault("output too long: at most 1048576")
         try:
             text = report.text_of(self.st.lanes())
@@ -775,7 +781,7 @@ class Bench:
 
     def piece(self, name, given, room):
         name, given, room = data(name), num(given), num(room)
-        if room > PAGE:
+        if room > OUTPUT:
             raise Fault("output too long: at most 1048576")
         try:
             got = self.st.piece(name, given, room)
@@ -803,7 +809,7 @@ class Bench:
 
     def check(self, marks, hh):
         marks = num(marks)
-        if marks > PAGE:
+        if marks > OUTPUT:
             raise Fault("output too long: at most 1048576")
         if not re.fullmatch("[0-9a-f]{2}", hh):
             raise Fault("not bytes: hex pairs, - or N*HH joined by +, or ' and a name")
@@ -825,7 +831,7 @@ class Bench:
         if words[0] not in COMMANDS:
             return "? unknown command"
         usage = COMMANDS[words[0]]
-        if len(words) != len(usage.split(" ")):
+        if not usage.count(" ") - usage.count("[") <= line.count(" ") <= usage.count(" "):
             return "? usage: " + usage
         try:
             return getattr(self, words[0].replace("-", "_"))(*words[1:])

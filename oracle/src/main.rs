@@ -12,8 +12,7 @@ use words::{Fault, bytes, decimal, decimal32, outside, shown, spaced};
 
 type Said = Result<String, Fault>;
 
-const STATE: [&str; 11] =
-    ["seed", "words", "key_bytes", "list_bytes", "buckets", "end", "keys", "key_page", "key_used", "list_page", "list_used"];
+const STATE: &str = "seed words key_bytes list_bytes buckets end keys key_page key_used list_page list_used page_size";
 
 /// A name that both sides take: the port refuses a longer one, and by document 02's Seven the empty one.
 fn compared_name(word: &str) -> Result<Vec<u8>, Fault> {
@@ -139,7 +138,7 @@ impl Bench {
     fn state(&self) -> Said {
         let store = self.store()?;
         store.check_listing();
-        let told = STATE.iter().zip(store.state()).map(|(name, n)| format!(" {name}={n}"));
+        let told = STATE.split(' ').zip(store.state()).map(|(name, n)| format!(" {name}={n}"));
         Ok(format!("state{}", told.collect::<String>()))
     }
 
@@ -167,7 +166,7 @@ impl Bench {
         let lent = self.lent;
         let Some(store) = &self.store else {
             let pages = lent_span(&self.bare, 0, lent.list_bytes);
-            return [vec![0; 4 * lent.words], vec![0; lent.key_bytes], pages, vec![0; 8 * STATE.len()]];
+            return [vec![0; 4 * lent.words], vec![0; lent.key_bytes], pages, vec![0; 8 * STATE.split(' ').count()]];
         };
         store.check_listing();
         let table = store.table_words(0, lent.words).iter().flat_map(|n| n.to_le_bytes()).collect();

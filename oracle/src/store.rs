@@ -180,14 +180,14 @@ impl Store {
         assert_eq!(listed, self.key_count());
     }
 
-    /// The numbers that the state remembers, in the testbench's order.
-    pub fn state(&self) -> [u64; 11] {
+    /// The numbers that the state remembers, in the testbench's order; the page size is the one that the crate has.
+    pub fn state(&self) -> [u64; 12] {
         let (key_page, key_used) = place_of(&self.keys);
         let (list_page, list_used) = place_of(&self.lists);
         let lent = self.lent;
         let sizes = [lent.words, lent.key_bytes, lent.list_bytes, self.table_len(), self.back as usize, self.key_count()];
-        let arenas = [key_page, key_used, list_page, list_used];
-        let mut out = [murmurhash32::SEED as u64; 11];
+        let arenas = [key_page, key_used, list_page, list_used, PAGE];
+        let mut out = [murmurhash32::SEED as u64; 12];
         for (i, n) in sizes.iter().chain(&arenas).enumerate() {
             out[i + 1] = *n as u64;
         }

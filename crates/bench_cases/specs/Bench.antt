@@ -32,7 +32,7 @@ abbrev pub nine : List ℕ
 nine =
     ninth
     (appended (1 ∷ 2 ∷ 3 ∷ 4 ∷ 5 ∷ 6 ∷ 7 ∷ 8 ∷ 9 ∷ [])
-    (writing (replicate 64 0) (record { page = 0; used = 0 }) fresh))
+    (writing (replicate 64 0) (record { page = 0; used = 0; size = pageSize }) fresh))
 
 -- key "A", empty append, to a store of capacity 1 that was just created: the key bytes used
 abbrev pub usedBy : Appended → List ℕ
@@ -44,7 +44,7 @@ afterA (Made st) t = usedBy (appendOf st (lent t (replicate 32 0) (replicate 16 
 afterA (Barred n) t = []
 
 abbrev pub recordOfA : List ℕ
-recordOfA = afterA (createOf 1 0 (0 ∷ 0 ∷ []) 32 16 .answer) (createOf 1 0 (0 ∷ 0 ∷ []) 32 16 .table)
+recordOfA = afterA (createOf 1 0 pageSize (0 ∷ 0 ∷ []) 32 16 .answer) (createOf 1 0 pageSize (0 ∷ 0 ∷ []) 32 16 .table)
 
 -- the table: what the definitions give
 unfoldable pub found : List (List ℕ)

@@ -2,7 +2,7 @@
 // the lent list area.
 //
 // Each reads its words, makes one call and says what it answered. It promises that it ends and stays inside what is
-// lent, whatever the line and the memory are; what the calls answer, the crates below promise. It uses fastcmp,
+// lent, whatever the line and the memory are; what the calls answer, the crates below promise. It uses limits, fastcmp,
 // fastcpy, murmurhash2, vint, memory_arena, text and say.
 use fastcpy::Copied;
 use memory_arena::Allocated;
@@ -10,6 +10,7 @@ use memory_arena::Arena;
 use memory_arena::Touched;
 use text::fault;
 use text::words;
+use text::words::Number;
 use text::words::Taken;
 use vint::Unvint;
 ghost use Prim.Native.Nat.{_≤_};
@@ -111,11 +112,17 @@ fn copy(line: &[u8], name: &mut [u8], output: &mut [u8]) {
 
 // ---- the bare arena
 
-fn arena(page: u64, used: u64) -> Arena {
+fn arena(page: u64, used: u64, size: u64) -> Arena {
     Arena {
         page: page as usize,
         used: used as usize,
+        size: size as usize,
     }
+}
+
+// Word k of a line as a page size; the crate's where the line ends before it.
+fn size_at(line: &[u8], k: usize) -> Number {
+    words::number_or(line, k, limits::PAGE_SIZE as u64)
 }
 
 // The third number of a line: how many bytes of the list area the arena has.
@@ -139,15 +146,16 @@ fn say_allocated(a: Allocated) {
     }
 }
 
-// `allocate PAGE USED LENGTH N`
+// `allocate PAGE USED LENGTH N [SIZE]`
 fn allocate(line: &[u8], lists: &[u8]) {
     let g = words::first_numbers(line, 4);
     let len = front(line, lists);
-    let fault = fault::first(g.fault, len.fault);
+    let size = size_at(line, 5);
+    let fault = fault::first(g.fault, fault::first(len.fault, size.fault));
     if fault != 0 {
         return say::fault(fault);
     }
-    let a = memory_arena::allocate_space(arena(g.a, g.b), len.n, g.d as usize);
+    let a = memory_arena::allocate_space(arena(g.a, g.b, size.value), len.n, g.d as usize);
     say_allocated(a)
 }
 
@@ -158,20 +166,23 @@ fn say_got(t: Touched, got: &[u8]) {
     }
 }
 
-// `get PAGE USED LENGTH PLACE N`
+// `get PAGE USED LENGTH PLACE N [SIZE]`
 fn get(line: &[u8], lists: &[u8], output: &mut [u8]) {
     let g = words::first_numbers(line, 5);
     let len = front(line, lists);
     let room = words::length_at(line, 5, output.len(), fault::OUTPUT_TOO_LONG);
+    let size = size_at(line, 6);
     let wide = fault::first(g.fault, words::beyond_32(g.d));
-    let fault = fault::first(wide, fault::first(len.fault, room.fault));
+    let lengths = fault::first(len.fault, room.fault);
+    let fault = fault::first(wide, fault::first(lengths, size.fault));
     if fault != 0 {
         return say::fault(fault);
     }
     let pages = len.n;
     let n = room.n;
     let place = words::low_32(g.d);
-    let t = memory_arena::read(arena(g.a, g.b), &lists[0..pages], place, &mut output[0..n]);
+    let a = arena(g.a, g.b, size.value);
+    let t = memory_arena::read(a, &lists[0..pages], place, &mut output[0..n]);
     say_got(t, &output[0..n])
 }
 
@@ -182,20 +193,23 @@ fn say_put(t: Touched) {
     }
 }
 
-// `put PAGE USED LENGTH PLACE BYTES`
+// `put PAGE USED LENGTH PLACE BYTES [SIZE]`
 fn put(line: &[u8], lists: &mut [u8], name: &mut [u8]) {
     let g = words::first_numbers(line, 4);
     let len = front(line, lists);
     let b = words::bytes(line, 5, name);
+    let size = size_at(line, 6);
     let wide = fault::first(g.fault, words::beyond_32(g.d));
-    let fault = fault::first(wide, fault::first(b.fault, len.fault));
+    let lengths = fault::first(b.fault, len.fault);
+    let fault = fault::first(wide, fault::first(lengths, size.fault));
     if fault != 0 {
         return say::fault(fault);
     }
     let pages = len.n;
     let n = b.n;
     let place = words::low_32(g.d);
-    let t = memory_arena::write_at(arena(g.a, g.b), &mut lists[0..pages], place, &name[0..n]);
+    let a = arena(g.a, g.b, size.value);
+    let t = memory_arena::write_at(a, &mut lists[0..pages], place, &name[0..n]);
     say_put(t)
 }
 

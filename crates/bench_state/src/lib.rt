@@ -9,17 +9,21 @@ use text::words;
 ghost use Prim.Native.Nat.{_+_, _≤_};
 ghost use lib.ListN.{length};
 
-const COUNT: usize = 11;
+const COUNT: usize = 12;
 
 // The state's numbers, in the order in which they are told. The end is 0 at the front of the lent table and 1 at its
-// back.
+// back. The page size, which both arenas keep, is one number here.
 
-const NAMES: [u8; 86] =
-    *b"seed words key_bytes list_bytes buckets end keys key_page key_used list_page list_used";
+const NAMES: [u8; 96] =
+    *b"seed words key_bytes list_bytes buckets end keys key_page key_used list_page list_used page_size";
 
 // A state of zeros.
 pub fn zeros() -> State {
-    let unused = Arena { page: 0, used: 0 };
+    let unused = Arena {
+        page: 0,
+        used: 0,
+        size: 0,
+    };
     State {
         seed: 0,
         words: 0,
@@ -56,30 +60,33 @@ fn number_of(st: State, k: usize) -> u64 {
         7 => keys.page as u64,
         8 => keys.used as u64,
         9 => lists.page as u64,
-        _ => lists.used as u64,
+        10 => lists.used as u64,
+        _ => keys.size as u64,
     }
 }
 
 // The state with another arena state for the keys.
-fn with_keys(st: State, page: u64, used: u64) -> State {
+fn with_keys(st: State, page: usize, used: usize, size: usize) -> State {
     let mut next = st;
-    let arena = Arena {
-        page: page as usize,
-        used: used as usize,
-    };
+    let arena = Arena { page, used, size };
     next.key_arena = arena;
     next
 }
 
 // The state with another arena state for the lists.
-fn with_lists(st: State, page: u64, used: u64) -> State {
+fn with_lists(st: State, page: usize, used: usize, size: usize) -> State {
     let mut next = st;
-    let arena = Arena {
-        page: page as usize,
-        used: used as usize,
-    };
+    let arena = Arena { page, used, size };
     next.list_arena = arena;
     next
+}
+
+// The state with another page size, for both.
+fn with_size(st: State, size: usize) -> State {
+    let keys = st.key_arena;
+    let lists = st.list_arena;
+    let next = with_keys(st, keys.page, keys.used, size);
+    with_lists(next, lists.page, lists.used, size)
 }
 
 // The state with one of the first seven numbers changed.
@@ -102,10 +109,11 @@ fn with_number(st: State, k: usize, n: u64) -> State {
     let keys = st.key_arena;
     let lists = st.list_arena;
     match k {
-        7 => with_keys(st, n, keys.used as u64),
-        8 => with_keys(st, keys.page as u64, n),
-        9 => with_lists(st, n, lists.used as u64),
-        10 => with_lists(st, lists.page as u64, n),
+        7 => with_keys(st, n as usize, keys.used, keys.size),
+        8 => with_keys(st, keys.page, n as usize, keys.size),
+        9 => with_lists(st, n as usize, lists.used, lists.size),
+        10 => with_lists(st, lists.page, n as usize, lists.size),
+        11 => with_size(st, n as usize),
         _ => with_plain(st, k, n),
     }
 }
@@ -179,16 +187,16 @@ fn put_number(into: &mut [u8], at: usize, n: u64)
 
 // The hash of a state's numbers, each as 8 little-endian bytes.
 pub fn hash(st: State) -> u32 {
-    let mut into = [0u8; 88];
+    let mut into = [0u8; 96];
     hash_in(st, &mut into)
 }
 
-fn hash_in(st: State, into: &mut [u8; 88]) -> u32 {
+fn hash_in(st: State, into: &mut [u8; 96]) -> u32 {
     hash_at(st, into)
 }
 
 fn hash_at(st: State, into: &mut [u8]) -> u32
-    requires { ⌜ 88 ≤ length (now into) ⌝ }
+    requires { ⌜ 96 ≤ length (now into) ⌝ }
 {
     let mut k = 0;
     while k < COUNT {

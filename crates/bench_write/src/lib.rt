@@ -2,7 +2,7 @@
 //
 // Each reads its words, makes one call, says what it answered and gives back the state. It promises that it ends and
 // stays inside what is lent, whatever the line, the state and the memory are; what the call answers, store promises. It
-// uses memory_arena and store (for the state), text and say.
+// uses limits, memory_arena and store (for the state), text and say.
 use store::Appended;
 use store::Created;
 use store::State;
@@ -22,15 +22,18 @@ fn say_created(c: Created, st: State) -> State {
     }
 }
 
-// `create CAPACITY SEED`
+// `create CAPACITY SEED [SIZE]`
 fn create(st: State, line: &[u8], table: &mut [u32], keys: &[u8], lists: &[u8]) -> State {
     let g = words::first_numbers(line, 2);
-    let fault = fault::first(g.fault, words::beyond_32(g.b));
+    let size = words::number_or(line, 3, limits::PAGE_SIZE as u64);
+    let wide = fault::first(g.fault, words::beyond_32(g.b));
+    let fault = fault::first(wide, size.fault);
     if fault != 0 {
         say::fault(fault);
         return st;
     }
-    let made = store::create::create(g.a as usize, words::low_32(g.b), table, keys, lists);
+    let seed = words::low_32(g.b);
+    let made = store::create::create(g.a as usize, seed, size.value as usize, table, keys, lists);
     say_created(made, st)
 }
 

@@ -9,7 +9,7 @@ use types.Run.{OneOf, miss}
 use denote.Enum.Declared.{tagOf}
 use lib.Dec.{leb, ltb, eqb}
 use lib.ListN.{length, take, drop, getD, replicate, length-replicate}
-use borrow.Author.Tests.{eq-eqb, ne-eqb, lt-ltb, le-ltb, lt-leb, le-leb, leb-true}
+use borrow.Author.Tests.{eq-eqb, ne-eqb, lt-ltb, le-ltb, lt-leb, le-leb}
 use Rattle.limits.specs.Limits.{nullAddress, freshNumber, recordExtra, linkSize, arenaLimit, wordLimit, bucketLimit}
 use Rattle.limits.specs.Refusals.{checking, permitted}
 use Rattle.numbers.specs.LittleEndian.{leNumber}
@@ -18,7 +18,7 @@ use Rattle.marks.specs.Bits.{Out as Marks·Out, out as marks·out, markSpan}
 use Rattle.murmurhash2.specs.Murmur.{murmurHash2}
 use Rattle.memory_arena.specs.declared.Arena.{Arena}
 use Rattle.memory_arena.specs.Calls.{sensible}
-use Rattle.memory_arena.proofs.Laws.{sensible-facts}
+use Rattle.memory_arena.proofs.Laws.{sensible-short}
 use Rattle.shared_arena_hashmap.specs.declared.Walk.{Walk}
 use Rattle.shared_arena_hashmap.specs.Probe.{keyLength, keyAt, goodRecord, valuePlace, lookup}
 use Rattle.shared_arena_hashmap.proofs.Laws.{power-facts, lookup-looked, good-record-in}
@@ -65,10 +65,10 @@ module _ (st : State) (m : Lent) (W : checked st m ≡ true) where
   lists-sense = whole .list-arena
 
   pub keys-short : length (m .keys) ≤ arenaLimit
-  keys-short = leb-true _ _ (sensible-facts (st .«key_arena») (length (m .keys)) keys-sense .short)
+  keys-short = sensible-short (st .«key_arena») (length (m .keys)) keys-sense
 
   pub lists-short : length (m .lists) ≤ arenaLimit
-  lists-short = leb-true _ _ (sensible-facts (st .«list_arena») (length (m .lists)) lists-sense .short)
+  lists-short = sensible-short (st .«list_arena») (length (m .lists)) lists-sense
 
   pub record In (first i : ℕ) : Type 0 where
     pub inside : 2 * (first + i) + 1 < length (m .table)

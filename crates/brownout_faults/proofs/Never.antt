@@ -8,7 +8,7 @@ use native.Mathlib.Omega.{arith}
 use lib.Dec.{leb, eqb}
 use lib.ListN.{length}
 use borrow.Author.Tests.{le-leb, leb-false, eqb-true, eqb-false}
-use Rattle.limits.specs.Limits.{pageSize, freshNumber, linkSize, recordExtra}
+use Rattle.limits.specs.Limits.{freshNumber, linkSize, recordExtra}
 use Rattle.limits.specs.Refusals.{numberIn}
 use Rattle.numbers.proofs.Tests.{both, not-both}
 use Rattle.memory_arena.specs.declared.Arena.{Arena}
@@ -52,7 +52,7 @@ use Rattle.brownout_faults.proofs.Where.{walk-found, walk-damaged, walk
 
 -- a block of a list whose blocks are good
 good-last : (a : Arena) (m : List ℕ) (head k n : ℕ) → n ≡ suc k → goodBlocks a m head n ≡ true
-    → goodSpan pageSize a (blockPlace m head k) (blockSize (k + 3) + linkSize) ≡ true
+    → goodSpan a (blockPlace m head k) (blockSize (k + 3) + linkSize) ≡ true
 unfolding goodBlocks
 good-last a m head k n e g = let h : goodBlocks a m head (suc k) ≡ true = rw e at g in
     both (goodBlocks a m head k) _ h .1
@@ -75,7 +75,7 @@ module _ (st : State) (m : Lent) (W : checked st m ≡ true) (F : Faultless st m
   some-bucket : 0 < st .buckets
   some-bucket = power-facts (st .buckets) (whole .power) .some
 
-  lists-stand : standing pageSize (st .«list_arena») (length (m .lists)) ≡ true
+  lists-stand : standing (st .«list_arena») (length (m .lists)) ≡ true
   lists-stand = sensible-facts (st .«list_arena») (length (m .lists)) (whole .list-arena) .stands
 
   clean : (i : ℕ) → i < st .buckets → vacant st m i ≡ false → Clean st m i
@@ -215,7 +215,7 @@ module _ (st : State) (m : Lent) (W : checked st m ≡ true) (F : Faultless st m
 
       go : (b : Bool) → eqb (h .number) freshNumber ≡ b
           → cond b true (eqb (h .tail) (blockIn m h (blockCount h - 1) + (blockSize (h .number) - h .remaining))) ≡ true
-          → cond b true (goodSpan pageSize a (h .tail) (h .remaining + linkSize)) ≡ true
+          → cond b true (goodSpan a (h .tail) (h .remaining + linkSize)) ≡ true
       go true q e = refl
       go false q e =
           let s : SoundHeader h (endBytesAt (valuePlace (m .keys) x) (m .keys)) =
@@ -224,20 +224,20 @@ module _ (st : State) (m : Lent) (W : checked st m ≡ true) (F : Faultless st m
           let k : ℕ = blockCount h - 1 in
           let c : blockCount h ≡ suc k = omega (arith, s .shape .from) in
           let w : k + 3 ≡ h .number = omega (arith, s .shape .from) in
-          let g : goodSpan pageSize a (blockIn m h k) (blockSize (h .number) + linkSize) ≡ true =
+          let g : goodSpan a (blockIn m h k) (blockSize (h .number) + linkSize) ≡ true =
           rw w at (good-last a (m .lists) (h .head) k (blockCount h) c (blocks-fine x K)) in
           let t : h .tail ≡ blockIn m h k + (blockSize (h .number) - h .remaining) = eqb-true _ _ e in
           let r : h .remaining ≤ blockSize (h .number) = s .shape .within in
-          good-below pageSize a (h .tail) (h .remaining + linkSize) (omega arith)
-          (rw t (placed-within pageSize (blockIn m h k) (blockSize (h .number) + linkSize)
+          good-below a (h .tail) (h .remaining + linkSize) (omega arith)
+          (rw t (placed-within (a .size) (blockIn m h k) (blockSize (h .number) + linkSize)
           (blockSize (h .number) - h .remaining) (h .remaining + linkSize) (omega arith) (omega arith)
-          (good-page pageSize a (blockIn m h k) (blockSize (h .number) + linkSize) (length (m .lists)) lists-stand g)))
+          (good-page a (blockIn m h k) (blockSize (h .number) + linkSize) (length (m .lists)) lists-stand g)))
           (omega (
             arith,
-            good-end pageSize a (blockIn m h k) (blockSize (h .number) + linkSize) (length (m .lists))
+            good-end a (blockIn m h k) (blockSize (h .number) + linkSize) (length (m .lists))
                 lists-stand g,
           ))
-          (standing-facts pageSize a (length (m .lists)) lists-stand .in-page)
+          (standing-facts a (length (m .lists)) lists-stand .in-page)
 
   module _ (name bytes : List ℕ) where
     abbrev Not4 : Out → Type 0
@@ -270,7 +270,7 @@ module _ (st : State) (m : Lent) (W : checked st m ≡ true) (F : Faultless st m
     new : Not4 (appendNew st m name bytes)
     unfolding appendNew
     new = which (isCrowded st) _ 5 (λ z. omega arith) (room
-        (roomFor pageSize (st .«key_arena») (length (m .keys)) (length name + recordExtra)))
+        (roomFor (st .«key_arena») (length (m .keys)) (length name + recordExtra)))
 
     standing-on : (x : ℕ) → Kept x → Not4 (appendStanding st m x bytes)
     unfolding appendStanding

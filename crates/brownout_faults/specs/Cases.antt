@@ -22,8 +22,8 @@ stateOf buckets keys keyBytes = record {
   buckets = buckets;
   back = false;
   keys = keys;
-  «key_arena» = record { page = 0; used = keyBytes };
-  «list_arena» = record { page = 0; used = 24 };
+  «key_arena» = record { page = 0; used = keyBytes; size = 65536 };
+  «list_arena» = record { page = 0; used = 24; size = 65536 };
 }
 
 -- the link behind the first block of 8 bytes leads into that block

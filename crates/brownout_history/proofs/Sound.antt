@@ -70,10 +70,10 @@ module _ {w : World} {G : Ghosts} (S : Sound w G) where
 
 -- ---- the theorem
 
-module _ (capacity seed : ℕ) (table keys lists : List ℕ) (w : World) (B : Born capacity seed table keys lists w)
-    (calls : List Call) where
+module _ (capacity seed size : ℕ) (table keys lists : List ℕ) (w : World)
+    (B : Born capacity seed size table keys lists w) (calls : List Call) where
   P : Played w (nobody (roundedDown capacity)) calls
-  P = played (born-sound capacity seed table keys lists w B) calls
+  P = played (born-sound capacity seed size table keys lists w B) calls
 
   -- EIGHT: every store with a history is called sound
   pub history-called-sound : CalledSound w calls

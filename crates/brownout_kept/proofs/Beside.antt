@@ -1,11 +1,12 @@
 -- What an append to one list leaves of another that shares no place with it. Assumes nothing.
 use Prim.Native.Nat.{ℕ, _+_}
+use mathlib.Core.Path.{sym, subst}
 use mathlib.Core.List.{List, [], _∷_}
 use native.Mathlib.Omega.{arith}
 use Rattle.limits.specs.Limits.{linkSize}
 use Rattle.memory_arena.specs.declared.Arena.{Arena}
 use Rattle.expull.specs.declared.Header.{Header}
-use Rattle.history_lanes.specs.Lane.{sizeOn, wideOn, LinkTo, Links, Below, usedEnd}
+use Rattle.history_lanes.specs.Lane.{sizeOn, wideOn, LinkTo, Links, Below, Paged, usedEnd}
 use Rattle.history_lanes.proofs.Blocks.{clear-within, below-up}
 use Rattle.history.specs.Sound.{BlocksApart}
 use Rattle.brownout_kept.specs.Laid.{Chain}
@@ -29,7 +30,7 @@ module _ {m : List ℕ} {a : Arena} {ks m′ : List ℕ} {a′ : Arena} {ks′ :
     number = K .number;
     links = keep-links js (K .below) c (K .links);
     below = below-up (usedEnd a) (usedEnd a′) js (S .grows) (K .below);
-    paged = K .paged;
+    paged = subst (λ (s : ℕ). Paged s js) (sym (S .size)) (K .paged);
     ends = K .ends;
     own = K .own;
     stands = L .stands;

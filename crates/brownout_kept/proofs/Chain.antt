@@ -11,7 +11,7 @@ use native.Mathlib.Omega.{arith}
 use lib.Dec.{eqb}
 use lib.ListN.{length}
 use borrow.Author.Tests.{eq-eqb, ne-eqb, eqb-true, eqb-false}
-use Rattle.limits.specs.Limits.{pageSize, arenaLimit, freshNumber, linkSize}
+use Rattle.limits.specs.Limits.{arenaLimit, freshNumber, linkSize}
 use Rattle.numbers.specs.LittleEndian.{leBytes}
 use Rattle.numbers.proofs.Laws.{length-le}
 use Rattle.spans.specs.Span.{readSpan, overwrite}
@@ -21,20 +21,20 @@ use Rattle.memory_arena.specs.declared.Allocated.{Allocated}
 use Rattle.memory_arena.specs.declared.Allocated.the-variants.{At, NoRoom, Refused}
 use Rattle.memory_arena.specs.Address.{placeOf}
 use Rattle.memory_arena.specs.Pages.{standing, roomFor}
-use Rattle.memory_arena.proofs.Laws.{place-of, standing-facts, standing-made, Room, room-facts}
+use Rattle.memory_arena.proofs.Laws.{place-of, standing-facts, standing-made, Room, room-size, room-facts}
 use Rattle.expull.specs.declared.Header.{Header}
 use Rattle.expull.specs.Header.{blockSize, fresh}
 use Rattle.expull.specs.Append.{Writing, writing, nextWide, headWith, linked, headerWith, withBlock, onRoom}
 use Rattle.expull.specs.Append.{takeBlock, ready, moved, filled, andThen, appended}
 use Rattle.expull.proofs.Laws.Header.{size-pos}
-use Rattle.history_lanes.specs.Lane.{sizeOn, wideOn, Clear, usedEnd}
+use Rattle.history_lanes.specs.Lane.{sizeOn, wideOn, Paged, Clear, usedEnd}
 use Rattle.history_lanes.proofs.Blocks.{apart-within, apart-sym, clear-within, clear-above, below-up}
 use Rattle.history_lanes.proofs.Blocks.{link-to-kept, links-kept}
 use Rattle.brownout_kept.specs.Laid.{Chain}
 
 -- ---- a list without blocks
 
-pub chain-fresh : (m : List ℕ) (a : Arena) → standing pageSize a (length m) ≡ true → length m ≤ arenaLimit
+pub chain-fresh : (m : List ℕ) (a : Arena) → standing a (length m) ≡ true → length m ≤ arenaLimit
     → Chain m a fresh []
 chain-fresh m a s h = record {
   number = refl;
@@ -53,6 +53,7 @@ pub record Step (m : List ℕ) (a : Arena) (ks m′ : List ℕ) (a′ : Arena) (
   pub kept : (q n : ℕ) → q + n ≤ usedEnd a → Clear q n ks → readSpan q n m′ ≡ readSpan q n m
   pub clear : (q n : ℕ) → q + n ≤ usedEnd a → Clear q n ks → Clear q n ks′
   pub grows : usedEnd a ≤ usedEnd a′
+  pub size : a′ .size ≡ a .size
   pub len : length m′ ≡ length m
 
 step-none : (m : List ℕ) (a : Arena) (ks : List ℕ) → Step m a ks m a ks
@@ -60,6 +61,7 @@ step-none m a ks = record {
   kept = λ q n u c. refl;
   clear = λ q n u c. c;
   grows = le-refl (usedEnd a);
+  size = refl;
   len = refl;
 }
 
@@ -69,6 +71,7 @@ step-join A B = record {
   kept = λ q n u c. B .kept q n (le-trans u (A .grows)) (A .clear q n u c) ∙ A .kept q n u c;
   clear = λ q n u c. B .clear q n (le-trans u (A .grows)) (A .clear q n u c);
   grows = le-trans (A .grows) (B .grows);
+  size = B .size ∙ A .size;
   len = B .len ∙ A .len;
 }
 
@@ -102,6 +105,7 @@ module _ (cs m : List ℕ) (a : Arena) (h : Header) (x : ℕ) (ks : List ℕ) (L
         (le-refl q) (le-refl (q + n)) (apart-sym q n x (wideOn ks) (c .0)));
     clear = λ q n u c. c;
     grows = le-refl (usedEnd a);
+    size = refl;
     len = length-overwrite (h .tail) cs m;
   }
 
@@ -134,12 +138,14 @@ unfolding linked
 memory-on [] v h m e = rw (eq-eqb (h .number) freshNumber e)
 memory-on (x ∷ ks) v h m e = rw (ne-eqb (h .number) freshNumber (λ z. omega arith))
 
--- where a block may be taken: above the used part, on one page, and the used part then ends with it
+-- where a block may be taken: above the used part, on one page, and the used part then ends with it; the pages keep
+-- their size
 record Spot (m : List ℕ) (a : Arena) (ks : List ℕ) (v : ℕ) (a′ : Arena) : Type 0 where
   above : usedEnd a ≤ v
   end : usedEnd a′ ≡ v + wideOn ks
-  on-page : placeOf pageSize v + wideOn ks ≤ pageSize
-  stands : standing pageSize a′ (length m) ≡ true
+  size : a′ .size ≡ a .size
+  on-page : placeOf (a′ .size) v + wideOn ks ≤ a′ .size
+  stands : standing a′ (length m) ≡ true
 
 take-chain : (m : List ℕ) (a : Arena) (h : Header) (ks : List ℕ) (v : ℕ) (a′ : Arena) → Chain m a h ks
     → h .remaining ≡ 0 → Spot m a ks v a′ → Chain (memoryOn ks v h m) a′ (headerOn ks v h) (v ∷ ks)
@@ -154,7 +160,7 @@ take-chain m a h [] v a′ L z S = record {
   short = L .short;
 }
 take-chain m a h (x ∷ ks) v a′ L z S =
-    let j : usedEnd a′ ≤ length m = standing-facts pageSize a′ (length m) (S .stands) .in-memory in
+    let j : usedEnd a′ ≤ length m = standing-facts a′ (length m) (S .stands) .in-memory in
     let e : h .tail ≡ x + sizeOn ks = omega (arith, L .ends) in
     let l : length (leBytes linkSize v) ≡ linkSize = length-le linkSize v in
     let c : Clear (h .tail) (length (leBytes linkSize v)) ks =
@@ -173,7 +179,7 @@ take-chain m a h (x ∷ ks) v a′ L z S =
         omega (arith, S .end),
         below-up (usedEnd a) (usedEnd a′) (x ∷ ks) (omega (arith, S .above, S .end)) (L .below),
       );
-      paged = (S .on-page, L .paged);
+      paged = (S .on-page, subst (λ (s : ℕ). Paged s (x ∷ ks)) (sym (S .size)) (L .paged));
       ends = (L .ends .0, le-refl (sizeOn (x ∷ ks)), refl);
       own = (clear-above (usedEnd a) v (wideOn (x ∷ ks)) (x ∷ ks) (S .above) (L .below), L .own);
       stands = rw length-overwrite (S .stands);
@@ -186,6 +192,7 @@ take-step m a h [] v a′ L z S = record {
   kept = λ q n u c. refl;
   clear = λ q n u c. (inl (le-trans u (S .above)), tt);
   grows = omega (arith, S .above, S .end);
+  size = S .size;
   len = refl;
 }
 take-step m a h (x ∷ ks) v a′ L z S =
@@ -197,28 +204,30 @@ take-step m a h (x ∷ ks) v a′ L z S =
           (le-refl q) (le-refl (q + n)) (apart-sym q n x (wideOn ks) (c .0)));
       clear = λ q n u c. (inl (le-trans u (S .above)), c);
       grows = omega (arith, S .above, S .end);
+      size = S .size;
       len = length-overwrite (h .tail) (leBytes linkSize v) m;
     }
 
 spot-at : (m : List ℕ) (a : Arena) (h : Header) (ks : List ℕ) (v : ℕ) (a′ : Arena) → Chain m a h ks
-    → roomFor pageSize a (length m) (nextWide h) ≡ At v a′ → Spot m a ks v a′
+    → roomFor a (length m) (nextWide h) ≡ At v a′ → Spot m a ks v a′
 spot-at m a h ks v a′ L e =
     let p : h .number + 1 ≡ length ks + 3 = omega (arith, L .number) in
     let w : nextWide h ≡ wideOn ks = ap (λ (b : ℕ). blockSize b + linkSize) p in
-    let R : Room pageSize a (length m) (wideOn ks) v a′ =
-    room-facts pageSize a (length m) (wideOn ks) v a′ (omega arith) (L .stands)
-    (ap (roomFor pageSize a (length m)) (sym w) ∙ e) in
+    let f = ap (roomFor a (length m)) (sym w) ∙ e in
+    let R : Room a (length m) (wideOn ks) v a′ =
+    room-facts a (length m) (wideOn ks) v a′ (omega arith) (L .stands) f in
     record {
       above = R .above;
       end = R .end;
+      size = room-size a (length m) (wideOn ks) v a′ f;
       on-page =
           rw (
             R .page-on,
-            place-of pageSize (a′ .page) (a′ .used - wideOn ks)
+            place-of (a′ .size) (a′ .page) (a′ .used - wideOn ks)
                 (omega (arith, R .wide, R .after .in-page)),
           )
           (omega (arith, R .wide, R .after .in-page));
-      stands = standing-made pageSize a′ (length m) (R .after);
+      stands = standing-made a′ (length m) (R .after);
     }
 
 -- ---- any number of bytes
@@ -230,7 +239,7 @@ abbrev StepOf : Writing → List ℕ → Writing → List ℕ → Type 0
 StepOf w ks w′ ks′ = Step (w .memory) (w .arena) ks (w′ .memory) (w′ .arena) ks′
 
 take-with : (w : Writing) (ks : List ℕ) (v : ℕ) (a′ : Arena) → ChainOf w ks → w .header .remaining ≡ 0
-    → roomFor pageSize (w .arena) (length (w .memory)) (nextWide (w .header)) ≡ At v a′
+    → roomFor (w .arena) (length (w .memory)) (nextWide (w .header)) ≡ At v a′
     → ChainOf (withBlock v a′ w) (v ∷ ks) × StepOf w ks (withBlock v a′ w) (v ∷ ks)
     × (0 < headerWith v (w .header) .remaining)
 take-with w ks v a′ L z e =
@@ -258,7 +267,7 @@ ready-open : (w : Writing) (ks : List ℕ) → ChainOf w ks → (v : Writing) �
 unfolding ready
 ready-open w ks L v e = go (eqb (w .header .remaining) 0) refl e
   where
-    taken : (r : Allocated) → roomFor pageSize (w .arena) (length (w .memory)) (nextWide (w .header)) ≡ r
+    taken : (r : Allocated) → roomFor (w .arena) (length (w .memory)) (nextWide (w .header)) ≡ r
         → w .header .remaining ≡ 0 → onRoom r w ≡ some v → Open w ks v
     taken (At at a′) p z e =
         let T = take-with w ks at a′ L z p in
@@ -279,7 +288,7 @@ ready-open w ks L v e = go (eqb (w .header .remaining) 0) refl e
 
     go : (t : Bool) → eqb (w .header .remaining) 0 ≡ t → cond t (takeBlock w) (some w) ≡ some v → Open w ks v
     go true p e =
-        taken (roomFor pageSize (w .arena) (length (w .memory)) (nextWide (w .header))) refl
+        taken (roomFor (w .arena) (length (w .memory)) (nextWide (w .header))) refl
         (eqb-true (w .header .remaining) 0 p) e
     go false p e =
         subst (λ (v : Writing). Open w ks v) (same-some w v e) (stays ks L (eqb-false (w .header .remaining) 0 p))

@@ -10,14 +10,14 @@ use native.Mathlib.Omega.{arith}
 use native.Mathlib.Decide.{ℕ-discrete, decLe}
 use lib.Dec.{eqb, ltb}
 use lib.ListN.{length}
-use borrow.Author.Tests.{eqb-true, eqb-false, leb-true, ltb-true, ltb-false}
-use Rattle.limits.specs.Limits.{pageSize, arenaLimit, freshNumber, recordExtra}
+use borrow.Author.Tests.{eqb-true, eqb-false, ltb-true, ltb-false}
+use Rattle.limits.specs.Limits.{arenaLimit, freshNumber, recordExtra}
 use Rattle.numbers.proofs.Tests.{both, not-both}
 use Rattle.spans.specs.Span.{Apart}
 use Rattle.spans.proofs.Laws.{length-span}
 use Rattle.murmurhash2.specs.Murmur.{murmurHash2}
 use Rattle.memory_arena.specs.Pages.{standing, goodSpan}
-use Rattle.memory_arena.proofs.Laws.{sensible-facts, good-end, good-page}
+use Rattle.memory_arena.proofs.Laws.{sensible-facts, sensible-short, good-end, good-page}
 use Rattle.shared_arena_hashmap.specs.declared.Met.{Met}
 use Rattle.shared_arena_hashmap.specs.declared.Met.the-variants.{Empty, Standing, Damaged, Lap}
 use Rattle.shared_arena_hashmap.specs.Buckets.{hashAt}
@@ -150,11 +150,11 @@ module _ (st : State) (m : Lent) (W : checked st m ≡ true) (F : Faultless st m
   some-bucket : 0 < st .buckets
   some-bucket = power-facts (st .buckets) (whole .power) .some
 
-  lists-stand : standing pageSize (st .«list_arena») (length (m .lists)) ≡ true
+  lists-stand : standing (st .«list_arena») (length (m .lists)) ≡ true
   lists-stand = sensible-facts (st .«list_arena») (length (m .lists)) (whole .list-arena) .stands
 
   lists-short : length (m .lists) ≤ arenaLimit
-  lists-short = leb-true _ _ (sensible-facts (st .«list_arena») (length (m .lists)) (whole .list-arena) .short)
+  lists-short = sensible-short (st .«list_arena») (length (m .lists)) (whole .list-arena)
 
   -- ---- the names
 
@@ -286,7 +286,7 @@ module _ (st : State) (m : Lent) (W : checked st m ≡ true) (F : Faultless st m
     unfolding headerSound
     sound = sound-facts h (endBytesAt (valuePlace (m .keys) (recordIn st m i)) (m .keys)) (A .clean .header)
 
-    spans : (b : ℕ) → b < blockCount h → goodSpan pageSize (st .«list_arena») (blockIn m h b) (wideAt b) ≡ true
+    spans : (b : ℕ) → b < blockCount h → goodSpan (st .«list_arena») (blockIn m h b) (wideAt b) ≡ true
     spans b l = block-good (st .«list_arena») (m .lists) (h .head) b (blockCount h) l (A .clean .blocks)
 
     meets : (b : ℕ) → b < blockCount h → (laneMet st m i (blockIn m h b) (blockWide b) ≡ false)
@@ -330,10 +330,10 @@ module _ (st : State) (m : Lent) (W : checked st m ≡ true) (F : Faultless st m
           omega (arith, places-length (m .lists) (h .head) (blockCount h));
       links = places-links (m .lists) (h .head) (blockCount h);
       below = places-below (m .lists) (h .head) _ (blockCount h)
-          (λ b l. good-end pageSize (st .«list_arena») (blockIn m h b) (wideAt b) (length (m .lists)) lists-stand
+          (λ b l. good-end (st .«list_arena») (blockIn m h b) (wideAt b) (length (m .lists)) lists-stand
           (spans b l));
-      paged = places-paged (m .lists) (h .head) (blockCount h)
-          (λ b l. good-page pageSize (st .«list_arena») (blockIn m h b) (wideAt b) (length (m .lists)) lists-stand
+      paged = places-paged (m .lists) (h .head) (st .«list_arena» .size) (blockCount h)
+          (λ b l. good-page (st .«list_arena») (blockIn m h b) (wideAt b) (length (m .lists)) lists-stand
           (spans b l));
       ends = list-ends;
       own = places-own (m .lists) (h .head) (blockCount h)

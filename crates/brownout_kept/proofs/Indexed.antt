@@ -8,7 +8,7 @@ use native.Mathlib.Omega.{arith}
 use lib.Dec.{eqb}
 use lib.ListN.{length}
 use borrow.Author.Tests.{eqb-true, eqb-false}
-use Rattle.limits.specs.Limits.{pageSize, freshNumber, linkSize}
+use Rattle.limits.specs.Limits.{freshNumber, linkSize}
 use Rattle.numbers.specs.LittleEndian.{leNumber}
 use Rattle.numbers.proofs.Tests.{both-true}
 use Rattle.spans.specs.Span.{readSpan, Apart}
@@ -35,11 +35,11 @@ every-apart : (ks js : List ℕ) → BlocksApart ks js → Every (λ x w. Clear 
 every-apart [] js b = tt
 every-apart (x ∷ ks) js b = (b .0, every-apart ks js (b .1))
 
-every-good : (a : Arena) (n : ℕ) (ks : List ℕ) → standing pageSize a n ≡ true
-    → Below (usedEnd a) ks → Paged ks → Every (λ x w. goodSpan pageSize a x w ≡ true) ks
+every-good : (a : Arena) (n : ℕ) (ks : List ℕ) → standing a n ≡ true
+    → Below (usedEnd a) ks → Paged (a .size) ks → Every (λ x w. goodSpan a x w ≡ true) ks
 every-good a n [] s b p = tt
 every-good a n (x ∷ ks) s b p = (
-  good-below pageSize a x (wideOn ks) (omega arith) (p .0) (b .0) (standing-facts pageSize a n s .in-page),
+  good-below a x (wideOn ks) (omega arith) (p .0) (b .0) (standing-facts a n s .in-page),
   every-good a n ks s (b .1) (p .1),
 )
 
@@ -56,9 +56,9 @@ module _ {m : List ℕ} {a : Arena} {h : Header} {ks : List ℕ} (L : Chain m a 
   abbrev at : ℕ → ℕ
   at i = blockPlace m (h .head) i
 
-  chain-good : (i : ℕ) → i < blockCount h → goodSpan pageSize a (at i) (wideAt i) ≡ true
+  chain-good : (i : ℕ) → i < blockCount h → goodSpan a (at i) (wideAt i) ≡ true
   chain-good =
-      chain-every L (λ x w. goodSpan pageSize a x w ≡ true)
+      chain-every L (λ x w. goodSpan a x w ≡ true)
       (every-good a (length m) ks (L .stands) (L .below) (L .paged))
 
   pub chain-blocks : (k : ℕ) → k ≤ blockCount h → goodBlocks a m (h .head) k ≡ true
@@ -149,11 +149,11 @@ module _ (m : List ℕ) (hd : ℕ) where
   places-below u (suc k) f =
       (rw (places-wide k) (f k (omega arith)), places-below u k (λ i h. f i (omega arith)))
 
-  pub places-paged : (k : ℕ) → ((i : ℕ) → i < k → placeOf pageSize (blockPlace m hd i) + wideAt i ≤ pageSize)
-      → Paged (placesTo m hd k)
-  places-paged zero f = tt
-  places-paged (suc k) f =
-      (rw (places-wide k) (f k (omega arith)), places-paged k (λ i h. f i (omega arith)))
+  pub places-paged : (s k : ℕ) → ((i : ℕ) → i < k → placeOf s (blockPlace m hd i) + wideAt i ≤ s)
+      → Paged s (placesTo m hd k)
+  places-paged s zero f = tt
+  places-paged s (suc k) f =
+      (rw (places-wide k) (f k (omega arith)), places-paged s k (λ i h. f i (omega arith)))
 
   pub places-clear : (p n k : ℕ) → ((i : ℕ) → i < k → Apart p n (blockPlace m hd i) (wideAt i))
       → Clear p n (placesTo m hd k)

@@ -9,7 +9,7 @@ use native.Mathlib.Omega.{arith}
 use lib.Dec.{leb}
 use lib.ListN.{length}
 use borrow.Author.Tests.{le-leb, eq-eqb, ne-eqb}
-use Rattle.limits.specs.Limits.{pageSize, nameLimit, freshNumber, recordExtra, linkSize}
+use Rattle.limits.specs.Limits.{nameLimit, freshNumber, recordExtra, linkSize}
 use Rattle.memory_arena.specs.declared.Arena.{Arena}
 use Rattle.memory_arena.specs.declared.Allocated.{Allocated}
 use Rattle.memory_arena.specs.declared.Allocated.the-variants.{At, NoRoom, Refused}
@@ -31,7 +31,7 @@ use Rattle.store.specs.Name.{nameKind}
 use Rattle.store.specs.Look.{Lent, checked, walkOf, headerOf, countOf}
 use Rattle.store.specs.Append.{Out, out, declined, isSaturated, isCrowded, standingWritten, newWritten, onKeyRoom}
 use Rattle.store.specs.Append.{appendNew, appendOf}
-use Rattle.store.proofs.Guard.{kind-length}
+use Rattle.store.proofs.Guard.{kind-length, kind-short}
 use Rattle.store.proofs.Cases.{append-3, append-13, append-met, met-standing, met-empty, met-lap, new-5, new-room, standing-on}
 use Rattle.store.proofs.Promises.{promises as store·promises}
 use Rattle.store.proofs.Kept.{append-whole}
@@ -60,10 +60,10 @@ chain-tail m a h [] L = rw (eq-eqb (h .number) freshNumber (L .number))
 chain-tail m a h (x ∷ ks) L =
     let t : h .tail ≡ x + (sizeOn ks - h .remaining) = omega (arith, L .ends) in
     rw (ne-eqb (h .number) freshNumber (λ z. omega (arith, L .number)))
-    (good-below pageSize a (h .tail) (h .remaining + linkSize) (omega arith)
-    (rw t (placed-within pageSize x (wideOn ks) (sizeOn ks - h .remaining) (h .remaining + linkSize) (omega arith)
+    (good-below a (h .tail) (h .remaining + linkSize) (omega arith)
+    (rw t (placed-within (a .size) x (wideOn ks) (sizeOn ks - h .remaining) (h .remaining + linkSize) (omega arith)
     (omega (arith, L .ends .1)) (L .paged .0)))
-    (omega (arith, L .ends .2, L .below .0)) (standing-facts pageSize a (length m) (L .stands) .in-page))
+    (omega (arith, L .ends .2, L .below .0)) (standing-facts a (length m) (L .stands) .in-page))
 
 -- ---- an append
 
@@ -105,7 +105,7 @@ module _ {st : State} {m : Lent} {G : Ghosts} (S : Laid st m G) (name bytes : Li
     some-byte = kind-length st (length name) Proper proper .0
 
     short : length name ≤ nameLimit
-    short = kind-length st (length name) Proper proper .1
+    short = kind-short st (length name) proper
 
     goes-new : (Stands G name → ⊥) → appendOf st m name bytes ≡ appendNew st m name bytes
     goes-new M =
@@ -134,7 +134,7 @@ module _ {st : State} {m : Lent} {G : Ghosts} (S : Laid st m G) (name bytes : Li
         (chain-tail (m .lists) (st .«list_arena») head (G .blocks name) (S .chain name M)) refl)
 
     keeps-entered : (M : Stands G name → ⊥) (loose : isCrowded st ≡ false) (at : ℕ) (ka : Arena)
-        → roomFor pageSize (st .«key_arena») (length (m .keys)) (length name + recordExtra) ≡ At at ka
+        → roomFor (st .«key_arena») (length (m .keys)) (length name + recordExtra) ≡ At at ka
         → (o : Option Writing) → appended bytes (writing (m .lists) (st .«list_arena») fresh) ≡ o
         → appendOf st m name bytes ≡ newWritten o st m name at ka → Keeps m (appendOf st m name bytes)
     unfolding newWritten
@@ -146,7 +146,7 @@ module _ {st : State} {m : Lent} {G : Ghosts} (S : Laid st m G) (name bytes : Li
         (keeps-accepted m s m′ (took-new S name bytes M short some-byte loose at ka r v e (accepted-whole s m′ p)))
 
     keeps-roomed : (M : Stands G name → ⊥) (loose : isCrowded st ≡ false) (r : Allocated)
-        → roomFor pageSize (st .«key_arena») (length (m .keys)) (length name + recordExtra) ≡ r
+        → roomFor (st .«key_arena») (length (m .keys)) (length name + recordExtra) ≡ r
         → appendOf st m name bytes ≡ onKeyRoom r st m name bytes → Keeps m (appendOf st m name bytes)
     unfolding onKeyRoom
     keeps-roomed M loose (At at ka) r p =
@@ -163,9 +163,9 @@ module _ {st : State} {m : Lent} {G : Ghosts} (S : Laid st m G) (name bytes : Li
         go : (b : Bool) → isCrowded st ≡ b → Keeps m (appendOf st m name bytes)
         go true e = subst (Keeps m) (sym (new ∙ new-5 st m name bytes e)) (keeps-declined st m 5)
         go false e =
-            keeps-roomed M e (roomFor pageSize (st .«key_arena») (length (m .keys)) (length name + recordExtra)) refl
+            keeps-roomed M e (roomFor (st .«key_arena») (length (m .keys)) (length name + recordExtra)) refl
             (new ∙ new-room st m name bytes e
-            (roomFor pageSize (st .«key_arena») (length (m .keys)) (length name + recordExtra)) refl)
+            (roomFor (st .«key_arena») (length (m .keys)) (length name + recordExtra)) refl)
 
   pub append-laid : Keeps m (appendOf st m name bytes)
   append-laid = go (nameKind st (length name)) refl (decide-member name (G .names))

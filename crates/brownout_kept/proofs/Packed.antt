@@ -9,7 +9,7 @@ use native.Mathlib.Omega.{arith}
 use lib.Dec.{leb, ltb}
 use lib.ListN.{length}
 use borrow.Author.Tests.{eq-eqb, ne-eqb, le-leb, le-ltb, leb-true, leb-false, ltb-true, ltb-false}
-use Rattle.limits.specs.Limits.{pageSize, nullAddress, freshNumber, numberLimit, sizeTop, linkSize}
+use Rattle.limits.specs.Limits.{nullAddress, freshNumber, numberLimit, sizeTop, linkSize}
 use Rattle.numbers.proofs.Tests.{both, left-false, right-false}
 use Rattle.spans.specs.Span.{Apart}
 use Rattle.memory_arena.specs.declared.Arena.{Arena}
@@ -143,12 +143,12 @@ chain-header m a h [] L =
     }
 chain-header m a h (x ∷ ks) L =
     let e : h .number ≡ length ks + 3 = omega (arith, L .number) in
-    let i : usedEnd a ≤ length m = standing-facts pageSize a (length m) (L .stands) .in-memory in
-    let s : length m ≤ 4293918720 = L .short in
+    let i : usedEnd a ≤ length m = standing-facts a (length m) (L .stands) .in-memory in
+    let s : length m ≤ 4294901760 = L .short in
     let t = packed (usedEnd a) (x ∷ ks) (L .below) (L .own) in
     let w = wide-few (x ∷ ks) in
     let q = tally-most (covered (x ∷ ks)) (usedEnd a) in
-    let c : suc (length ks) * 32772 ≤ 4293918720 + 12 * 32772 = omega (arith, t, w, q) in
+    let c : suc (length ks) * 32772 ≤ 4294901760 + 12 * 32772 = omega (arith, t, w, q) in
     let o : h .head + linkSize ≤ usedEnd a = rw (L .ends .0) (oldest-below (usedEnd a) x ks (L .below)) in
     let r : h .remaining ≤ blockSize (h .number) = rw e (L .ends .1) in
     record {

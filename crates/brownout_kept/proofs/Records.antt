@@ -1,18 +1,19 @@
 -- What a write beside a record, or of its header, leaves of it, whatever its bytes were. Assumes nothing.
 use Prim.Native.Nat.{ℕ, _+_, _≤_, _<_}
-use mathlib.Core.Path.{_≡_, ap, _∙_}
+use mathlib.Core.Path.{_≡_, sym, ap, _∙_, subst}
 use mathlib.Core.Logic.{inr}
 use mathlib.Core.Bool.{true}
 use mathlib.Core.List.{List}
 use native.Mathlib.Nat.{le-refl, add-zero}
 use native.Mathlib.Omega.{arith}
 use lib.ListN.{length}
-use Rattle.limits.specs.Limits.{pageSize, recordExtra, valueSize}
+use Rattle.limits.specs.Limits.{recordExtra, valueSize}
 use Rattle.numbers.specs.LittleEndian.{leNumber}
 use Rattle.numbers.proofs.Tests.{both, both-true}
 use Rattle.spans.specs.Span.{readSpan, overwrite, Apart}
 use Rattle.spans.proofs.Laws.{read-apart}
 use Rattle.memory_arena.specs.declared.Arena.{Arena}
+use Rattle.memory_arena.specs.Address.{placeOf}
 use Rattle.memory_arena.specs.Pages.{standing, goodSpan}
 use Rattle.memory_arena.proofs.Laws.{standing-facts, good-end, good-page, good-below}
 use Rattle.shared_arena_hashmap.specs.Probe.{keyLength, keyAt, goodRecord, valuePlace}
@@ -24,20 +25,20 @@ use Rattle.history_lanes.specs.Lane.{usedEnd, HeaderFits}
 use Rattle.history_lanes.proofs.Blocks.{apart-within}
 
 -- a good span stays good in an arena that is used further
-good-on : (a b : Arena) (len at n : ℕ) → standing pageSize a len ≡ true → standing pageSize b len ≡ true
-    → usedEnd a ≤ usedEnd b → 0 < n → goodSpan pageSize a at n ≡ true → goodSpan pageSize b at n ≡ true
-good-on a b len at n s t u z g =
-    good-below pageSize b at n z (good-page pageSize a at n len s g)
-    (omega (arith, good-end pageSize a at n len s g, u)) (standing-facts pageSize b len t .in-page)
+good-on : (a b : Arena) (len at n : ℕ) → b .size ≡ a .size → standing a len ≡ true → standing b len ≡ true
+    → usedEnd a ≤ usedEnd b → 0 < n → goodSpan a at n ≡ true → goodSpan b at n ≡ true
+good-on a b len at n e s t u z g =
+    good-below b at n z (subst (λ (w : ℕ). placeOf w at + n ≤ w) (sym e) (good-page a at n len s g))
+    (omega (arith, good-end a at n len s g, u)) (standing-facts b len t .in-page)
 
-pub record-on : (a b : Arena) (keys : List ℕ) (at : ℕ) → standing pageSize a (length keys) ≡ true
-    → standing pageSize b (length keys) ≡ true → usedEnd a ≤ usedEnd b → goodRecord a keys at ≡ true
-    → goodRecord b keys at ≡ true
+pub record-on : (a b : Arena) (keys : List ℕ) (at : ℕ) → b .size ≡ a .size
+    → standing a (length keys) ≡ true → standing b (length keys) ≡ true → usedEnd a ≤ usedEnd b
+    → goodRecord a keys at ≡ true → goodRecord b keys at ≡ true
 unfolding goodRecord
-record-on a b keys at s t u g =
-    let p = both (goodSpan pageSize a at 2) (goodSpan pageSize a at (keyLength keys at + recordExtra)) g in
-    both-true _ _ (good-on a b (length keys) at 2 s t u (omega arith) (p .0))
-    (good-on a b (length keys) at (keyLength keys at + recordExtra) s t u (omega arith) (p .1))
+record-on a b keys at e s t u g =
+    let p = both (goodSpan a at 2) (goodSpan a at (keyLength keys at + recordExtra)) g in
+    both-true _ _ (good-on a b (length keys) at 2 e s t u (omega arith) (p .0))
+    (good-on a b (length keys) at (keyLength keys at + recordExtra) e s t u (omega arith) (p .1))
 
 module _ (keys : List ℕ) (at : ℕ) (k : List ℕ) (is : keyLength keys at ≡ length k) (p : ℕ) (bs : List ℕ) where
   abbrev after : List ℕ

@@ -8,8 +8,7 @@ use mathlib.Core.List.{List, []}
 use native.Mathlib.Nat.{le-refl}
 use native.Mathlib.Omega.{arith}
 use lib.ListN.{length}
-use borrow.Author.Tests.{leb-true}
-use Rattle.limits.specs.Limits.{pageSize, arenaLimit, nameLimit, recordExtra, valueSize}
+use Rattle.limits.specs.Limits.{arenaLimit, nameLimit, recordExtra, valueSize}
 use Rattle.fastcmp.proofs.Laws.{equal-same, equal-not}
 use Rattle.spans.specs.Span.{overwrite, Apart}
 use Rattle.spans.proofs.Laws.{length-overwrite}
@@ -18,7 +17,8 @@ use Rattle.memory_arena.specs.declared.Arena.{Arena}
 use Rattle.memory_arena.specs.declared.Allocated.the-variants.{At}
 use Rattle.memory_arena.specs.Address.{placeOf}
 use Rattle.memory_arena.specs.Pages.{standing, roomFor, goodSpan}
-use Rattle.memory_arena.proofs.Laws.{place-of, Room, room-facts, room-in, standing-made, Sensible, sensible-facts}
+use Rattle.memory_arena.proofs.Laws.{place-of, Room, room-size, room-facts, room-in, standing-made}
+use Rattle.memory_arena.proofs.Laws.{Sensible, sensible-facts, sensible-short}
 use Rattle.memory_arena.proofs.Laws.{good-end}
 use Rattle.numbers.proofs.Tests.{both}
 use Rattle.shared_arena_hashmap.specs.Probe.{keyLength, keyAt, goodRecord, valuePlace}
@@ -248,7 +248,7 @@ module _ {st : State} {m : Lent} {G : Ghosts} (S : Laid st m G) where
 
   module _ (name bytes : List ℕ) (M : Stands G name → ⊥) (short : length name ≤ nameLimit) (some-byte : 0 < length name)
       (loose : isCrowded st ≡ false) (at : ℕ) (ka : Arena)
-      (r : roomFor pageSize (st .«key_arena») (length (m .keys)) (length name + recordExtra) ≡ At at ka) (v : Writing)
+      (r : roomFor (st .«key_arena») (length (m .keys)) (length name + recordExtra) ≡ At at ka) (v : Writing)
       (e : appended bytes (writing (m .lists) (st .«list_arena») fresh) ≡ some v) where
     abbrev keys′ : List ℕ
     keys′ = overwrite at (recordBytes name (v .header)) (m .keys)
@@ -265,32 +265,33 @@ module _ {st : State} {m : Lent} {G : Ghosts} (S : Laid st m G) where
         × Step (m .lists) (st .«list_arena») [] (v .memory) (v .arena) ks
     new-left =
         chain-appended bytes (writing (m .lists) (st .«list_arena») fresh) []
-        (chain-fresh (m .lists) (st .«list_arena») (list-sense .stands) (leb-true _ _ (list-sense .short))) v e
+        (chain-fresh (m .lists) (st .«list_arena») (list-sense .stands)
+        (sensible-short (st .«list_arena») (length (m .lists)) (whole .list-arena))) v e
 
     new-fits : HeaderFits (v .header)
     new-fits = chain-header (v .memory) (v .arena) (v .header) (new-left .0) (new-left .1)
 
-    room : Room pageSize (st .«key_arena») (length (m .keys)) (length name + recordExtra) at ka
+    room : Room (st .«key_arena») (length (m .keys)) (length name + recordExtra) at ka
     room =
-        room-facts pageSize (st .«key_arena») (length (m .keys)) (length name + recordExtra) at ka (omega arith)
+        room-facts (st .«key_arena») (length (m .keys)) (length name + recordExtra) at ka (omega arith)
         (key-sense .stands) r
 
     new-in : at + (length name + recordExtra) ≤ length (m .keys)
     new-in =
-        room-in pageSize (st .«key_arena») (length (m .keys)) (length name + recordExtra) at ka (omega arith)
+        room-in (st .«key_arena») (length (m .keys)) (length name + recordExtra) at ka (omega arith)
         (key-sense .stands) r
 
-    new-paged : placeOf pageSize at + (length name + recordExtra) ≤ pageSize
+    new-paged : placeOf (ka .size) at + (length name + recordExtra) ≤ ka .size
     new-paged =
         rw (
           room .page-on,
-          place-of pageSize (ka .page) (ka .used - (length name + recordExtra))
+          place-of (ka .size) (ka .page) (ka .used - (length name + recordExtra))
               (omega (arith, room .wide, room .after .in-page)),
         )
         (omega (arith, room .wide, room .after .in-page))
 
-    ka-stands : standing pageSize ka (length (m .keys)) ≡ true
-    ka-stands = standing-made pageSize ka (length (m .keys)) (room .after)
+    ka-stands : standing ka (length (m .keys)) ≡ true
+    ka-stands = standing-made ka (length (m .keys)) (room .after)
 
     same-size : length keys′ ≡ length (m .keys)
     same-size = length-overwrite at (recordBytes name (v .header)) (m .keys)
@@ -299,11 +300,11 @@ module _ {st : State} {m : Lent} {G : Ghosts} (S : Laid st m G) where
     new-below : (j : List ℕ) → Stands G j → G .place j + (length j + recordExtra) ≤ at
     unfolding goodRecord
     new-below j N =
-        let g = both (goodSpan pageSize (st .«key_arena») (G .place j) 2) _ (S .good j N) .1 in
+        let g = both (goodSpan (st .«key_arena») (G .place j) 2) _ (S .good j N) .1 in
         omega (
           arith,
           laid-length S j N,
-          good-end pageSize (st .«key_arena») (G .place j) (keyLength (m .keys) (G .place j) + recordExtra)
+          good-end (st .«key_arena») (G .place j) (keyLength (m .keys) (G .place j) + recordExtra)
               (length (m .keys)) (key-sense .stands) g,
           room .above,
         )
@@ -332,7 +333,7 @@ module _ {st : State} {m : Lent} {G : Ghosts} (S : Laid st m G) where
     written =
         record-written (m .keys) ka at name (v .header) some-byte short (omega (arith, room .end)) new-paged new-in
 
-    stands′ : standing pageSize ka (length keys′) ≡ true
+    stands′ : standing ka (length keys′) ≡ true
     stands′ = rw same-size ka-stands
 
     new-good : (j : List ℕ) → (j ≡ name) ⊎ Stands G j → goodRecord ka keys′ (place′ j) ≡ true
@@ -340,7 +341,9 @@ module _ {st : State} {m : Lent} {G : Ghosts} (S : Laid st m G) where
     new-good j (inr N) =
         rw (place-old j N)
         (good-kept (m .keys) (G .place j) j (laid-length S j N) at (recordBytes name (v .header)) (beyond-front j N) ka
-        ∙ record-on (st .«key_arena») ka (m .keys) (G .place j) (key-sense .stands) ka-stands
+        ∙ record-on (st .«key_arena») ka (m .keys) (G .place j)
+        (room-size (st .«key_arena») (length (m .keys)) (length name + recordExtra) at ka r) (key-sense .stands)
+        ka-stands
         (omega (arith, room .above, room .end)) (S .good j N))
 
     new-key : (j : List ℕ) → (j ≡ name) ⊎ Stands G j → keyAt keys′ (place′ j) ≡ j
@@ -382,7 +385,8 @@ module _ {st : State} {m : Lent} {G : Ghosts} (S : Laid st m G) where
     new-laid W E =
         let T = table-readdressed (E .table) place′ (λ k N. place-old k (E .only k N)) in
         let a : place′ name ≡ at = place-new name refl in
-        let s : length (m .keys) ≤ arenaLimit = leb-true _ _ (key-sense .short) in
+        let s : length (m .keys) ≤ arenaLimit =
+        sensible-short (st .«key_arena») (length (m .keys)) (whole .key-arena) in
         let N = enters T name (λ n. M (E .only name n)) (omega (arith, E .room loose, E .many))
         (λ q. omega (arith, a, new-in, s)) in
         let only : (j : List ℕ) → Member j (N .0) → (j ≡ name) ⊎ Stands G j =

@@ -7,7 +7,7 @@ use mathlib.Core.Path.{_≡_}
 use mathlib.Core.Bool.{true}
 use mathlib.Core.List.{List, [], _∷_}
 use lib.ListN.{length}
-use Rattle.limits.specs.Limits.{pageSize, arenaLimit, nullAddress, freshNumber, recordExtra}
+use Rattle.limits.specs.Limits.{arenaLimit, nullAddress, freshNumber, recordExtra}
 use Rattle.spans.specs.Span.{Apart}
 use Rattle.murmurhash2.specs.Murmur.{murmurHash2}
 use Rattle.memory_arena.specs.declared.Arena.{Arena}
@@ -38,10 +38,10 @@ pub record Chain (m : List ℕ) (a : Arena) (h : Header) (ks : List ℕ) : Type 
   pub number : h .number ≡ length ks + freshNumber
   pub links : Links m ks
   pub below : Below (usedEnd a) ks
-  pub paged : Paged ks
+  pub paged : Paged (a .size) ks
   pub ends : Ends h ks
   pub own : Own ks
-  pub stands : standing pageSize a (length m) ≡ true
+  pub stands : standing a (length m) ≡ true
   pub short : length m ≤ arenaLimit
 
 -- ---- a memory

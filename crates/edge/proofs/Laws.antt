@@ -36,8 +36,9 @@ told-four p a b c d m =
     ∙ ap (overwrite (p + 3) (d ∷ [])) (behind p (p + 2) (a ∷ b ∷ []) (c ∷ []) m refl)
     ∙ behind p (p + 3) (a ∷ b ∷ c ∷ []) (d ∷ []) m refl
 
-pub told-fours : (xs ys zs m : List ℕ) → length xs ≡ 4 → length ys ≡ 4
-    → overwrite 8 zs (overwrite 4 ys (overwrite 0 xs m)) ≡ overwrite 0 ((xs ++ ys) ++ zs) m
-told-fours xs ys zs m e f =
-    ap (overwrite 8 zs) (behind 0 4 xs ys m (omega (arith, e)))
-    ∙ behind 0 8 (xs ++ ys) zs m (omega (arith, e, f, length-append xs ys))
+pub told-fours : (xs ys zs vs m : List ℕ) → length xs ≡ 4 → length ys ≡ 4 → length zs ≡ 4
+    → overwrite 12 vs (overwrite 8 zs (overwrite 4 ys (overwrite 0 xs m))) ≡ overwrite 0 (((xs ++ ys) ++ zs) ++ vs) m
+told-fours xs ys zs vs m e f g =
+    ap (λ (n : List ℕ). overwrite 12 vs (overwrite 8 zs n)) (behind 0 4 xs ys m (omega (arith, e)))
+    ∙ ap (overwrite 12 vs) (behind 0 8 (xs ++ ys) zs m (omega (arith, e, f, length-append xs ys)))
+    ∙ behind 0 12 ((xs ++ ys) ++ zs) vs m (omega (arith, e, f, g, length-append xs ys, length-append (xs ++ ys) zs))

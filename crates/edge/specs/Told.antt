@@ -1,6 +1,6 @@
 -- RULES B1, X5. What the calls at the edge write to the area of 64-bit words that is lent for their answer: first the
--- refusal's number, 0 where there is none, then what is told. Words come in fours, unused ones are 0, and what would
--- pass the area's end is left out.
+-- refusal's number, 0 where there is none, then what is told. Words come in fours, behind a state one more, unused ones
+-- are 0, and what would pass the area's end is left out.
 use Prim.Native.Nat.{ℕ}
 use mathlib.Core.Bool.{Bool, cond}
 use mathlib.Core.List.{List, [], _∷_}
@@ -31,9 +31,9 @@ noRoomWord = 101
 
 -- ---- the state as numbers
 
--- From the numbers that a caller hands over.
-abbrev pub stateOf : ℕ → ℕ → ℕ → ℕ → ℕ → Bool → ℕ → ℕ → ℕ → ℕ → ℕ → State
-stateOf seed words keyBytes listBytes buckets back count keyPage keyUsed listPage listUsed = record {
+-- From the numbers that a caller hands over; the page size is one for both arenas.
+abbrev pub stateOf : ℕ → ℕ → ℕ → ℕ → ℕ → Bool → ℕ → ℕ → ℕ → ℕ → ℕ → ℕ → State
+stateOf seed words keyBytes listBytes buckets back count keyPage keyUsed listPage listUsed size = record {
   seed = seed;
   words = words;
   «key_bytes» = keyBytes;
@@ -41,16 +41,17 @@ stateOf seed words keyBytes listBytes buckets back count keyPage keyUsed listPag
   buckets = buckets;
   back = back;
   keys = count;
-  «key_arena» = record { page = keyPage; used = keyUsed };
-  «list_arena» = record { page = listPage; used = listUsed };
+  «key_arena» = record { page = keyPage; used = keyUsed; size = size };
+  «list_arena» = record { page = listPage; used = listUsed; size = size };
 }
 
--- A number and the state's fields, in the same order: twelve words.
+-- A number and the state's fields, in the same order: thirteen words.
 abbrev pub fieldsOf : ℕ → State → List ℕ
 fieldsOf n st =
     n ∷ st .seed ∷ st .words ∷ st .«key_bytes»
     ∷ st .«list_bytes» ∷ st .buckets ∷ cond (st .back) 1 0 ∷ st .keys
-    ∷ st .«key_arena» .page ∷ st .«key_arena» .used ∷ st .«list_arena» .page ∷ st .«list_arena» .used ∷ []
+    ∷ st .«key_arena» .page ∷ st .«key_arena» .used ∷ st .«list_arena» .page ∷ st .«list_arena» .used
+    ∷ st .«key_arena» .size ∷ []
 
 -- ---- the words of each answer
 

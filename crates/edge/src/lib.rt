@@ -85,6 +85,7 @@ fn tell_state(told: &mut [u64], number: u64, st: State)
         lists.page as u64,
         lists.used as u64,
     );
+    tell(told, 12, keys.size as u64);
 }
 
 fn tell_created(told: &mut [u64], r: Created)
@@ -158,17 +159,20 @@ fn state_of(
     key_used: usize,
     list_page: usize,
     list_used: usize,
+    size: usize,
 ) -> State
     ensures { λ r. ⌜ r ≡ stateOf seed words «key_bytes» «list_bytes» buckets back count «key_page» «key_used»
-        «list_page» «list_used» ⌝ }
+        «list_page» «list_used» size ⌝ }
 {
     let key_arena = Arena {
         page: key_page,
         used: key_used,
+        size,
     };
     let list_arena = Arena {
         page: list_page,
         used: list_used,
+        size,
     };
     State {
         seed,
@@ -189,16 +193,17 @@ fn state_of(
 pub extern "C" fn edge_create(
     capacity: usize,
     seed: u32,
+    size: usize,
     table: &mut [u32],
     keys: &[u8],
     lists: &[u8],
     told: &mut [u64],
 )
     ensures settled { λ _. ⌜ (now (table .exit), now (told .exit))
-        ≡ createTold (createOf capacity seed (now (table .entry)) (length (now (keys .entry)))
+        ≡ createTold (createOf capacity seed size (now (table .entry)) (length (now (keys .entry)))
         (length (now (lists .entry)))) (now (told .entry)) ⌝ }
 {
-    let r = store::create::create(capacity, seed, table, keys, lists);
+    let r = store::create::create(capacity, seed, size, table, keys, lists);
     tell_created(told, r);
 }
 
@@ -215,6 +220,7 @@ pub extern "C" fn edge_append(
     key_used: usize,
     list_page: usize,
     list_used: usize,
+    size: usize,
     table: &mut [u32],
     keys: &mut [u8],
     lists: &mut [u8],
@@ -224,7 +230,7 @@ pub extern "C" fn edge_append(
 )
     ensures settled { λ _. ⌜ (lent (now (table .exit)) (now (keys .exit)) (now (lists .exit)), now (told .exit))
         ≡ appendTold (appendOf (stateOf seed words «key_bytes» «list_bytes» buckets back count «key_page» «key_used»
-        «list_page» «list_used») (lent (now (table .entry)) (now (keys .entry)) (now (lists .entry)))
+        «list_page» «list_used» size) (lent (now (table .entry)) (now (keys .entry)) (now (lists .entry)))
         (now (name .entry)) (now (bytes .entry))) (now (told .entry)) ⌝ }
 {
     let st = state_of(
@@ -239,6 +245,7 @@ pub extern "C" fn edge_append(
         key_used,
         list_page,
         list_used,
+        size,
     );
     let r = store::write::append(st, table, keys, lists, name, bytes);
     tell_appended(told, r);
@@ -257,6 +264,7 @@ pub extern "C" fn edge_length(
     key_used: usize,
     list_page: usize,
     list_used: usize,
+    size: usize,
     table: &[u32],
     keys: &[u8],
     lists: &[u8],
@@ -265,7 +273,7 @@ pub extern "C" fn edge_length(
 )
     ensures settled { λ _. ⌜ now (told .exit)
         ≡ overwrite 0 (toldAnswer (lengthOf (stateOf seed words «key_bytes» «list_bytes» buckets back count «key_page»
-        «key_used» «list_page» «list_used») (lent (now (table .entry)) (now (keys .entry)) (now (lists .entry)))
+        «key_used» «list_page» «list_used» size) (lent (now (table .entry)) (now (keys .entry)) (now (lists .entry)))
         (now (name .entry)))) (now (told .entry)) ⌝ }
 {
     let st = state_of(
@@ -280,6 +288,7 @@ pub extern "C" fn edge_length(
         key_used,
         list_page,
         list_used,
+        size,
     );
     let r = store::look::length(st, table, keys, lists, name);
     tell_answer(told, r);
@@ -298,6 +307,7 @@ pub extern "C" fn edge_read(
     key_used: usize,
     list_page: usize,
     list_used: usize,
+    size: usize,
     table: &[u32],
     keys: &[u8],
     lists: &[u8],
@@ -307,7 +317,7 @@ pub extern "C" fn edge_read(
 )
     ensures settled { λ _. ⌜ (now (output .exit), now (told .exit))
         ≡ readTold (Rattle.store.specs.Look.readOf (stateOf seed words «key_bytes» «list_bytes» buckets back count
-        «key_page» «key_used» «list_page» «list_used»)
+        «key_page» «key_used» «list_page» «list_used» size)
         (lent (now (table .entry)) (now (keys .entry)) (now (lists .entry))) (now (name .entry))
         (now (output .entry))) (now (told .entry)) ⌝ }
 {
@@ -323,6 +333,7 @@ pub extern "C" fn edge_read(
         key_used,
         list_page,
         list_used,
+        size,
     );
     let r = store::look::read(st, table, keys, lists, name, output);
     tell_answer(told, r);
@@ -331,11 +342,19 @@ pub extern "C" fn edge_read(
 // ---- the bare arena's
 
 #[no_mangle]
-pub extern "C" fn edge_allocate(page: usize, used: usize, len: usize, n: usize, told: &mut [u64])
+pub extern "C" fn edge_allocate(
+    page: usize,
+    used: usize,
+    size: usize,
+    len: usize,
+    n: usize,
+    told: &mut [u64],
+)
     ensures settled { λ _. ⌜ now (told .exit)
-        ≡ overwrite 0 (toldAllocated (allocateOf (record { page = page; used = used }) len n)) (now (told .entry)) ⌝ }
+        ≡ overwrite 0 (toldAllocated (allocateOf (record { page = page; used = used; size = size }) len n))
+        (now (told .entry)) ⌝ }
 {
-    let r = memory_arena::allocate_space(Arena { page, used }, len, n);
+    let r = memory_arena::allocate_space(Arena { page, used, size }, len, n);
     tell_allocated(told, r);
 }
 
@@ -343,28 +362,38 @@ pub extern "C" fn edge_allocate(page: usize, used: usize, len: usize, n: usize, 
 pub extern "C" fn edge_get(
     page: usize,
     used: usize,
+    size: usize,
     pages: &[u8],
     at: u32,
     output: &mut [u8],
 ) -> u64
     ensures number { λ r. ⌜ r
-        ≡ numberTouched (readOf (record { page = page; used = used }) (now (pages .entry)) at (now (output .entry))
-        .answer) ⌝ }
+        ≡ numberTouched (readOf (record { page = page; used = used; size = size }) (now (pages .entry)) at
+        (now (output .entry)) .answer) ⌝ }
     ensures bytes { λ _. ⌜ now (output .exit)
-        ≡ readOf (record { page = page; used = used }) (now (pages .entry)) at (now (output .entry)) .memory ⌝ }
+        ≡ readOf (record { page = page; used = used; size = size }) (now (pages .entry)) at
+        (now (output .entry)) .memory ⌝ }
 {
-    let r = memory_arena::read(Arena { page, used }, pages, at, output);
+    let r = memory_arena::read(Arena { page, used, size }, pages, at, output);
     number_touched(r)
 }
 
 #[no_mangle]
-pub extern "C" fn edge_put(page: usize, used: usize, pages: &mut [u8], at: u32, bytes: &[u8]) -> u64
+pub extern "C" fn edge_put(
+    page: usize,
+    used: usize,
+    size: usize,
+    pages: &mut [u8],
+    at: u32,
+    bytes: &[u8],
+) -> u64
     ensures number { λ r. ⌜ r
-        ≡ numberTouched (writeOf (record { page = page; used = used }) (now (pages .entry)) at (now (bytes .entry))
-        .answer) ⌝ }
+        ≡ numberTouched (writeOf (record { page = page; used = used; size = size }) (now (pages .entry)) at
+        (now (bytes .entry)) .answer) ⌝ }
     ensures memory { λ _. ⌜ now (pages .exit)
-        ≡ writeOf (record { page = page; used = used }) (now (pages .entry)) at (now (bytes .entry)) .memory ⌝ }
+        ≡ writeOf (record { page = page; used = used; size = size }) (now (pages .entry)) at
+        (now (bytes .entry)) .memory ⌝ }
 {
-    let r = memory_arena::write_at(Arena { page, used }, pages, at, bytes);
+    let r = memory_arena::write_at(Arena { page, used, size }, pages, at, bytes);
     number_touched(r)
 }

@@ -12,7 +12,7 @@ use borrow.Author.Tests.{eq-eqb, ne-eqb, leb-true}
 use types.Run.{OneOf, miss}
 use denote.Enum.Declared.{tagOf}
 use Rattle.memory_arena.proofs.Allocated.{the-type}
-use Rattle.limits.specs.Limits.{pageSize, arenaLimit, freshNumber, numberLimit, linkSize}
+use Rattle.limits.specs.Limits.{arenaLimit, freshNumber, numberLimit, linkSize}
 use Rattle.numbers.specs.LittleEndian.{leNumber}
 use Rattle.spans.specs.Span.{overwrite, readSpan}
 use Rattle.spans.proofs.Laws.{length-overwrite, overwrite-append, overwrite-none}
@@ -21,7 +21,7 @@ use Rattle.memory_arena.specs.declared.Allocated.{Allocated}
 use Rattle.memory_arena.specs.declared.Allocated.the-variants.{At, NoRoom, Refused}
 use Rattle.memory_arena.specs.Pages.{roomFor, goodSpan}
 use Rattle.memory_arena.specs.Calls.{sensible}
-use Rattle.memory_arena.proofs.Laws.{standing-facts, room-facts, sensible-facts}
+use Rattle.memory_arena.proofs.Laws.{standing-facts, room-facts, room-sensible, sensible-facts, sensible-short}
 use Rattle.expull.specs.declared.Header.{Header}
 use Rattle.expull.specs.Header.{blockSize, soundHeader, blockCount, fullBytes, laneLength}
 use Rattle.expull.specs.Append.{Writing, nextWide, withBlock, onRoom, ready, filled, andThen, appended, onRoomDry, planned, planOf, isSome}
@@ -29,7 +29,7 @@ use Rattle.expull.proofs.Laws.Header.{sound-facts, full-more, length-pa
 use Rattle.numbers.proofs.Tests.{both-true}
 use Rattle.expull.specs.declared.Walked.the-variants.{To, Stopped}
 use Rattle.expull.specs.Blocks.{blockPlace, goodBlocks, fullBlocks, laneBytes, walkOf}
-use Rattle.expull.proofs.Laws.Append.{room-sensible, never, ready-taken, appended-chunk, appended-ready, plan-turn, plan-end, arenaOf, plan-decides, plan-fits, endOf, tail-in, Reached, reached-then, Readied, ready-reached, filled-reached}
+use Rattle.expull.proofs.Laws.Append.{never, ready-taken, appended-chunk, appended-ready, plan-turn, plan-end, arenaOf, plan-decides, plan-fits, endOf, tail-in, Reached, reached-then, Readied, ready-reached, filled-reached}
 use Rattle.expull.proofs.Laws.Blocks.{goodBlock, blocks-more, place-more, blocks-fewer, block-good, bad-block-stays, block-in, full-within, length-full, lastOf}
 
 -- ---- parts of a slice, as code lends them
@@ -62,13 +62,13 @@ plan-left len a h n l e = rw e
 
 -- a block taken leaves the arena sensible, and moves its end on
 plan-room : (len : ℕ) (a b : Arena) (number at : ℕ) → sensible a len ≡ true → 2 * number ≤ 2 * numberLimit + endOf a
-    → roomFor pageSize a len (blockSize (number + 1) + linkSize) ≡ At at b
+    → roomFor a len (blockSize (number + 1) + linkSize) ≡ At at b
     → (sensible b len ≡ true) × (2 * (number + 1) ≤ 2 * numberLimit + endOf b)
 plan-room len a b number at e h f =
     let s = sensible-facts a len e in
     let n = blockSize (number + 1) + linkSize in
     let z : 0 < n = omega arith in
-    let r = room-facts pageSize a len n at b z (s .stands) f in
+    let r = room-facts a len n at b z (s .stands) f in
     (room-sensible a len n at b z e f, omega (arith, r .above, r .end))
 
 -- the used end is within the lent memory, so a block number stays far below 2^32
@@ -76,8 +76,8 @@ plan-few : (a : Arena) (len number : ℕ) → sensible a len ≡ true → 2 * nu
     → 2 * number ≤ 2 * numberLimit + arenaLimit
 plan-few a len number e h =
     let s = sensible-facts a len e in
-    let l : len ≤ arenaLimit = leb-true _ _ (s .short) in
-    omega (arith, standing-facts pageSize a len (s .stands) .in-memory)
+    let l : len ≤ arenaLimit = sensible-short a len e in
+    omega (arith, standing-facts a len (s .stands) .in-memory)
 
 module _ {len l₀ n₀ : ℕ} {a₀ : Arena} {l n : ℕ} {a : Arena} (p : Planning len l₀ n₀ a₀ l n a) where
   pub planning-few : 2 * n ≤ 2 * numberLimit + arenaLimit
@@ -87,12 +87,12 @@ module _ {len l₀ n₀ : ℕ} {a₀ : Arena} {l n : ℕ} {a : Arena} (p : Plann
   planning-end e = p .rest ∙ rw e (plan-end len a n)
 
   -- a turn, by the size and the room that code found
-  pub planning-turn : {size : ℕ} {r : Allocated} → 0 < l → size ≡ blockSize (n + 1) → r ≡ roomFor pageSize a len (size + linkSize)
+  pub planning-turn : {size : ℕ} {r : Allocated} → 0 < l → size ≡ blockSize (n + 1) → r ≡ roomFor a len (size + linkSize)
       → planned l₀ len a₀ n₀ l₀ ≡ onRoomDry r (λ c. planned (l - size) len c (n + 1) (l - size))
   planning-turn z e f = p .rest ∙ plan-turn len a n l z ∙ rw (f, e)
 
   pub planning-next : {size : ℕ} {r : Allocated} {at : ℕ} {b : Arena} {left : ℕ} → 0 < l → size ≡ blockSize (n + 1)
-      → r ≡ roomFor pageSize a len (size + linkSize) → r ≡ At at b → left ≡ l - size → Planning len l₀ n₀ a₀ left (n + 1) b
+      → r ≡ roomFor a len (size + linkSize) → r ≡ At at b → left ≡ l - size → Planning len l₀ n₀ a₀ left (n + 1) b
   planning-next {at = at} {b = b} z e f g q =
       let k = plan-room len a b n at (p .sense) (p .few) (rw (← e) (sym f ∙ g)) in
       record { rest = planning-turn z e f ∙ rw (g, q); sense = k .0; few = k .1 }
@@ -100,7 +100,7 @@ module _ {len l₀ n₀ : ℕ} {a₀ : Arena} {l n : ℕ} {a : Arena} (p : Plann
 -- ---- the append's steps, as code makes them
 
 -- where a byte waits, a plan that has room names it
-pub waiting-room : (len : ℕ) (a : Arena) (h : Header) (r : Allocated) → h .remaining ≡ 0 → r ≡ roomFor pageSize a len (nextWide h)
+pub waiting-room : (len : ℕ) (a : Arena) (h : Header) (r : Allocated) → h .remaining ≡ 0 → r ≡ roomFor a len (nextWide h)
     → isSome (planOf len a h 1) ≡ true → OneOf (1 ∷ 2 ∷ []) (tagOf the-type r) → ⊥
 waiting-room len a h r z e p o =
     let q : planOf len a h 1 ≡ none =
@@ -109,7 +109,7 @@ waiting-room len a h r z e p o =
 
 -- a block taken, where nothing remains
 pub block-taken : (w : Writing) {r : Allocated} {at : ℕ} {b : Arena} → w .header .remaining ≡ 0
-    → r ≡ roomFor pageSize (w .arena) (length (w .memory)) (nextWide (w .header)) → r ≡ At at b → ready w ≡ some (withBlock at b w)
+    → r ≡ roomFor (w .arena) (length (w .memory)) (nextWide (w .header)) → r ≡ At at b → ready w ≡ some (withBlock at b w)
 block-taken w z e f = ready-taken w z ∙ ap (λ (x : Allocated). onRoom x w) (sym e ∙ f)
 
 -- bytes that fit the last block, which lies in the memory
@@ -126,7 +126,7 @@ chunk-fits {v = v} n k h =
     record {
       remains = h;
       in-memory = omega (arith, tail-in (v .arena) (length (v .memory)) (v .header) (j .sense) (j .tail) f);
-      short = leb-true _ _ (sensible-facts (v .arena) (length (v .memory)) (j .sense) .short);
+      short = sensible-short (v .arena) (length (v .memory)) (j .sense);
     }
 
 -- ---- the append's loop
@@ -196,7 +196,7 @@ pub record Walking (a : Arena) (m : List ℕ) (head n place i : ℕ) : Type 0 wh
 
 module _ {a : Arena} {m : List ℕ} {head n place i : ℕ} (w : Walking a m head n place i) where
   -- the test of a turn, as code makes it
-  pub walking-test : {size : ℕ} {t u : Bool} → size ≡ blockSize (i + 3) → t ≡ goodSpan pageSize a place (size + linkSize) → t ≡ u → goodBlock a m head i ≡ u
+  pub walking-test : {size : ℕ} {t u : Bool} → size ≡ blockSize (i + 3) → t ≡ goodSpan a place (size + linkSize) → t ≡ u → goodBlock a m head i ≡ u
   walking-test e f g = sym (f ∙ rw (w .here, e)) ∙ g
 
   pub walking-in : {size : ℕ} → sensible a (length m) ≡ true → size ≡ blockSize (i + 3) → goodBlock a m head i ≡ true

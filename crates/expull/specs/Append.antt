@@ -7,7 +7,7 @@ use mathlib.Core.Option.{Option, none, some}
 use mathlib.Core.List.{List, [], _∷_}
 use lib.Dec.{eqb}
 use lib.ListN.{length}
-use Rattle.limits.specs.Limits.{pageSize, freshNumber, linkSize}
+use Rattle.limits.specs.Limits.{freshNumber, linkSize}
 use Rattle.numbers.specs.LittleEndian.{leBytes}
 use Rattle.spans.specs.Span.{overwrite}
 use Rattle.memory_arena.specs.declared.Arena.{Arena}
@@ -57,7 +57,7 @@ onRoom (Refused n) w = none
 
 -- RULES S2. The next block, tried.
 abbrev pub takeBlock : Writing → Option Writing
-takeBlock w = onRoom (roomFor pageSize (w .arena) (length (w .memory)) (nextWide (w .header))) w
+takeBlock w = onRoom (roomFor (w .arena) (length (w .memory)) (nextWide (w .header))) w
 
 -- RULES S2. Ready for a waiting byte.
 unfoldable pub ready : Writing → Option Writing
@@ -99,7 +99,8 @@ unfolding roomFor blockSize
 planned zero len a b n = some a
 planned (suc turns) len a b n =
     cond (eqb n 0) (some a)
-    (onRoomDry (roomFor pageSize a len (blockSize (b + 1) + linkSize)) (λ a′. planned turns len a′ (b + 1) (n - blockSize (b + 1))))
+    (onRoomDry (roomFor a len (blockSize (b + 1) + linkSize))
+    (λ a′. planned turns len a′ (b + 1) (n - blockSize (b + 1))))
 
 -- RULES S8. The bytes first fill what remains of the last block; the rest waits.
 unfoldable pub planOf : ℕ → Arena → Header → ℕ → Option Arena
@@ -116,4 +117,4 @@ isSome (some a) = true
 -- RULES S9, W4. "for append to a list with blocks, tail with remaining + 4 bytes not a good span".
 unfoldable pub goodTail : Arena → Header → Bool
 unfolding goodSpan
-goodTail a h = cond (eqb (h .number) freshNumber) true (goodSpan pageSize a (h .tail) (h .remaining + linkSize))
+goodTail a h = cond (eqb (h .number) freshNumber) true (goodSpan a (h .tail) (h .remaining + linkSize))

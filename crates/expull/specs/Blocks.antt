@@ -4,7 +4,7 @@ use Prim.Native.Nat.{ℕ, zero, suc, _+_, _-_}
 use mathlib.Core.Bool.{Bool, true, cond, _&&_}
 use mathlib.Core.List.{List, [], _++_}
 use lib.Dec.{leb, eqb}
-use Rattle.limits.specs.Limits.{pageSize, freshNumber, linkSize}
+use Rattle.limits.specs.Limits.{freshNumber, linkSize}
 use Rattle.numbers.specs.LittleEndian.{leNumber}
 use Rattle.spans.specs.Span.{readSpan}
 use Rattle.memory_arena.specs.declared.Arena.{Arena}
@@ -26,7 +26,7 @@ blockPlace m head (suc i) = leNumber (readSpan (blockPlace m head i + blockSize 
 unfoldable pub goodBlocks : Arena → List ℕ → ℕ → ℕ → Bool
 unfolding blockPlace goodSpan
 goodBlocks a m head zero = true
-goodBlocks a m head (suc k) = goodBlocks a m head k && goodSpan pageSize a (blockPlace m head k) (blockSize (k + 3) + linkSize)
+goodBlocks a m head (suc k) = goodBlocks a m head k && goodSpan a (blockPlace m head k) (blockSize (k + 3) + linkSize)
 
 -- RULES U2. The bytes of the first k blocks, full.
 unfoldable pub fullBlocks : List ℕ → ℕ → ℕ → List ℕ

@@ -9,13 +9,14 @@ ghost use mathlib.Core.Bool.{true};
 ghost use mathlib.Core.Option.{some};
 ghost use Prim.Native.Nat.{_+_, _-_, _*_, _≤_, _<_};
 ghost use lib.ListN.{length};
-ghost use Rattle.limits.specs.Limits.{arenaLimit, freshNumber, numberLimit, linkSize};
+ghost use Rattle.limits.specs.Limits.{pageTaken, arenaLimit, freshNumber, numberLimit, linkSize};
 ghost use Rattle.memory_arena.specs.Calls.{sensible};
 ghost use Rattle.expull.specs.Header.{soundHeader};
 ghost use Rattle.expull.specs.Append.{writing, headWith, linked, ready, filled, appended, planOf, isSome, goodTail};
 
 // Whether a list's tail, with what remains and the link, is a good span; a list without blocks has none.
 pub fn is_good_tail(arena: Arena, h: Header) -> bool
+    requires { ⌜ pageTaken (arena .size) ≡ true ⌝ }
     ensures { λ r. ⌜ r ≡ goodTail arena h ⌝ }
 {
     if h.number == limits::FIRST_BLOCK_NUM {

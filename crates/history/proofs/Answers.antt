@@ -8,7 +8,7 @@ use mathlib.Core.List.{List}
 use native.Mathlib.Omega.{arith}
 use lib.ListN.{length}
 use borrow.Author.Tests.{le-leb}
-use Rattle.limits.specs.Limits.{pageSize, recordExtra}
+use Rattle.limits.specs.Limits.{recordExtra}
 use Rattle.memory_arena.specs.declared.Arena.{Arena}
 use Rattle.memory_arena.specs.declared.Allocated.{Allocated}
 use Rattle.memory_arena.specs.declared.Allocated.the-variants.{At, NoRoom, Refused}
@@ -138,7 +138,7 @@ module _ {w : World} {G : Ghosts} (S : Sound w G) (name bytes : List ℕ) where
           (walk-misses S name M)
 
       new-written : (loose : isCrowded (w .state) ≡ false) (at : ℕ) (ka : Arena)
-          → roomFor pageSize (w .state .«key_arena») (length (w .memory .keys)) (length name + recordExtra) ≡ At at ka → (o : Option Writing)
+          → roomFor (w .state .«key_arena») (length (w .memory .keys)) (length name + recordExtra) ≡ At at ka → (o : Option Writing)
           → appended bytes (writing (w .memory .lists) (w .state .«list_arena») fresh) ≡ o
           → appendIn w name bytes ≡ newWritten o (w .state) (w .memory) name at ka
           → Answers w G name bytes (dueBlocks (arenaOf o))
@@ -155,7 +155,7 @@ module _ {w : World} {G : Ghosts} (S : Sound w G) (name bytes : List ℕ) where
           })
 
       new-roomed : (loose : isCrowded (w .state) ≡ false) (r : Allocated)
-          → roomFor pageSize (w .state .«key_arena») (length (w .memory .keys)) (length name + recordExtra) ≡ r
+          → roomFor (w .state .«key_arena») (length (w .memory .keys)) (length name + recordExtra) ≡ r
           → appendIn w name bytes ≡ onKeyRoom r (w .state) (w .memory) name bytes
           → Answers w G name bytes (dueRecord r (dueList (w .state) (w .memory) fresh (length bytes)))
       unfolding onKeyRoom dueList
@@ -171,13 +171,13 @@ module _ {w : World} {G : Ghosts} (S : Sound w G) (name bytes : List ℕ) where
         where
           go : (b : Bool) → isCrowded (w .state) ≡ b
               → Answers w G name bytes
-              (cond b 5 (dueRecord (roomFor pageSize (w .state .«key_arena») (length (w .memory .keys)) (length name + recordExtra))
+              (cond b 5 (dueRecord (roomFor (w .state .«key_arena») (length (w .memory .keys)) (length name + recordExtra))
               (dueList (w .state) (w .memory) fresh (length bytes))))
           go true e = inl (record { some-number = λ z. omega arith; said = goes-new ∙ new-5 (w .state) (w .memory) name bytes e })
           go false e =
-              new-roomed e (roomFor pageSize (w .state .«key_arena») (length (w .memory .keys)) (length name + recordExtra)) refl
+              new-roomed e (roomFor (w .state .«key_arena») (length (w .memory .keys)) (length name + recordExtra)) refl
               (goes-new ∙ new-room (w .state) (w .memory) name bytes e
-              (roomFor pageSize (w .state .«key_arena») (length (w .memory .keys)) (length name + recordExtra)) refl)
+              (roomFor (w .state .«key_arena») (length (w .memory .keys)) (length name + recordExtra)) refl)
 
   -- whatever the name
   pub answers-any : (number : ℕ) × Answers w G name bytes number

@@ -25,25 +25,25 @@ use Rattle.history.specs.Sound.{Ghosts, Stands, Sound}
 abbrev pub nobody : ℕ → Ghosts
 nobody l = record { names = replicate l none; place = λ k. 0; header = λ k. fresh; blocks = λ k. [] }
 
-module _ (capacity seed : ℕ) (table keys lists : List ℕ) where
+module _ (capacity seed size : ℕ) (table keys lists : List ℕ) where
   abbrev l : ℕ
   l = roundedDown capacity
 
   abbrev start : World
-  start = record { state = freshState seed (length table) (length keys) (length lists) l; memory = lent (cleared 0 l table) keys lists }
+  start = record { state = freshState seed size (length table) (length keys) (length lists) l; memory = lent (cleared 0 l table) keys lists }
 
-  start-whole : creatable capacity (length table) (length keys) (length lists) ≡ true → checked (start .state) (start .memory) ≡ true
+  start-whole : creatable capacity size (length table) (length keys) (length lists) ≡ true → checked (start .state) (start .memory) ≡ true
   start-whole e =
-      let p = create-made capacity seed table (length keys) (length lists) e in
+      let p = create-made capacity seed size table (length keys) (length lists) e in
       subst (λ (t : List ℕ). checked (start .state) (lent t keys lists) ≡ true) (ap (λ (o : Out). o .table) p)
-      (create-whole capacity seed table keys lists (start .state) (ap (λ (o : Out). o .answer) p))
+      (create-whole capacity seed size table keys lists (start .state) (ap (λ (o : Out). o .answer) p))
 
-  start-sound : creatable capacity (length table) (length keys) (length lists) ≡ true → Sound start (nobody l)
+  start-sound : creatable capacity size (length table) (length keys) (length lists) ≡ true → Sound start (nobody l)
   start-sound e = record {
     whole = start-whole e;
     table =
         clears table 0 l (murmurHash2 seed) (λ k. 0) (power-facts l (rounded-is-power capacity) .some)
-        (creatable-room capacity (length table) (length keys) (length lists) e);
+        (creatable-room capacity size (length table) (length keys) (length lists) e);
     counted = sym (clears-count l);
     half = omega arith;
     records = λ k m. absurd (clears-none l k m);
@@ -61,18 +61,26 @@ module _ (capacity seed : ℕ) (table keys lists : List ℕ) where
   never : (t t′ : List ℕ) (s : State) → out (Barred 1) t ≡ out (Made s) t′ → ⊥
   never t t′ s e = let q : Barred 1 ≡ Made s = ap (λ (o : Out). o .answer) e in let z : _≡_ {A = ℕ} 0 1 = cc in omega arith
 
-  pub born-sound : (w : World) → Born capacity seed table keys lists w → Sound w (nobody l)
-  born-sound w B = go (creatable capacity (length table) (length keys) (length lists)) refl
+  -- what is born is the start
+  born-start : (w : World) → Born capacity seed size table keys lists w → (creatable capacity size (length table) (length keys) (length lists) ≡ true) × (start ≡ w)
+  born-start w B = go (creatable capacity size (length table) (length keys) (length lists)) refl
     where
-      go : (b : Bool) → creatable capacity (length table) (length keys) (length lists) ≡ b → Sound w (nobody l)
+      go : (b : Bool) → creatable capacity size (length table) (length keys) (length lists) ≡ b
+          → (creatable capacity size (length table) (length keys) (length lists) ≡ true) × (start ≡ w)
       go true e =
           let p = made-is (start .state) (w .state) (cleared 0 l table) (w .memory .table)
-          (sym (create-made capacity seed table (length keys) (length lists) e) ∙ B .made) in
-          let q : start ≡ w = λ i. record { state = p .0 i; memory = lent (p .1 i) (sym (B .keys-as-lent) i) (sym (B .lists-as-lent) i) } in
-          subst (λ (w : World). Sound w (nobody l)) q (start-sound e)
+          (sym (create-made capacity seed size table (length keys) (length lists) e) ∙ B .made) in
+          (e, λ i. record { state = p .0 i; memory = lent (p .1 i) (sym (B .keys-as-lent) i) (sym (B .lists-as-lent) i) })
       go false e =
           absurd (never table (w .memory .table) (w .state)
-          (sym (create-barred capacity seed table (length keys) (length lists) e) ∙ B .made))
+          (sym (create-barred capacity seed size table (length keys) (length lists) e) ∙ B .made))
+
+  pub born-sound : (w : World) → Born capacity seed size table keys lists w → Sound w (nobody l)
+  born-sound w B = let p = born-start w B in subst (λ (w : World). Sound w (nobody l)) (p .1) (start-sound (p .0))
+
+  -- its pages are of the size asked for
+  pub born-size : (w : World) → Born capacity seed size table keys lists w → w .state .«key_arena» .size ≡ size
+  born-size w B = ap (λ (v : World). v .state .«key_arena» .size) (sym (born-start w B .1))
 
   -- and no name stands in it
   pub born-empty : (k : List ℕ) → Stands (nobody l) k → ⊥

@@ -9,7 +9,7 @@ use native.Mathlib.Omega.{arith}
 use lib.Dec.{leb}
 use lib.ListN.{length}
 use borrow.Author.Tests.{leb-true, leb-false}
-use Rattle.limits.specs.Limits.{nameLimit}
+use Rattle.limits.specs.Limits.{nameLimitFor}
 use Rattle.numbers.proofs.Tests.{same-test}
 use Rattle.murmurhash2.specs.Murmur.{murmurHash2}
 use Rattle.shared_arena_hashmap.specs.Power.{roundedDown}
@@ -18,7 +18,7 @@ use Rattle.store.specs.declared.Name.the-variants.{TooLong, Nameless, Proper}
 use Rattle.store.specs.declared.Lookup.the-variants.{Failed}
 use Rattle.store.specs.declared.Answer.the-variants.{Found}
 use Rattle.store.specs.declared.Outcome.the-variants.{Block}
-use Rattle.store.specs.Name.{nameKind, byKind}
+use Rattle.store.specs.Name.{nameLimitOf, nameKind, byKind}
 use Rattle.store.specs.Look.{walkOf, lookupOf, findBlockOf}
 use Rattle.store.specs.Append.{Out}
 use Rattle.store.proofs.Guard.{kind-long}
@@ -34,12 +34,13 @@ use Rattle.history.specs.Promises.{ReadsAs, AnswersDue, HasNames}
 use Rattle.history.specs.Frames.{LeavesAlone}
 use Rattle.history.specs.Demand.{Demand3}
 use Rattle.history.specs.Sound.{Ghosts, Stands, Sound}
-use Rattle.history.proofs.Log.{play-more, log-more}
+use Rattle.history.proofs.Log.{play-more, log-more, play-size}
 use Rattle.history.proofs.Answers.{Declines, Accepts, Answers, answers-long, answers-nameless, answers-standing}
 use Rattle.history.proofs.Answers.{answers-new, answers-any}
 use Rattle.history.proofs.Born.{nobody, born-sound, born-empty}
 use Rattle.history.proofs.Told.{Says, Counts, Played, played}
 use Rattle.history.proofs.Shape.{lane-due}
+use Rattle.history.proofs.Records.{record-short}
 use Rattle.history.proofs.Readings.{reads-as}
 use Rattle.history.proofs.Stays.{found-stays, failed-block}
 use Rattle.history.proofs.Listed.{has-names}
@@ -91,18 +92,31 @@ accepted-took w G name bytes n (inr A) e = A
 
 -- ---- the theorems
 
-module _ (capacity seed : ℕ) (table keys lists : List ℕ) (w : World) (B : Born capacity seed table keys lists w) where
+module _ (capacity seed size : ℕ) (table keys lists : List ℕ) (w : World) (B : Born capacity seed size table keys lists w) where
   -- what a history leaves: a sound store, in which stands what the log says
   pub history : (calls : List Call) → Played w (nobody (roundedDown capacity)) calls
-  history calls = played (born-sound capacity seed table keys lists w B) calls
+  history calls = played (born-sound capacity seed size table keys lists w B) calls
 
   pub says : (calls : List Call) (name : List ℕ)
       → Says (play calls w) (history calls .ghosts) name (joined name calls w)
-  says calls name = history calls .says name none (born-empty capacity seed table keys lists name)
+  says calls name = history calls .says name none (born-empty capacity seed size table keys lists name)
+
+  -- no call changes the page size, nor with it the limit of names
+  pub size-kept : (calls : List Call) → play calls w .state .«key_arena» .size ≡ w .state .«key_arena» .size
+  size-kept calls = play-size calls w
+
+  limit-kept : (calls : List Call) → nameLimitOf (play calls w .state) ≡ nameLimitOf (w .state)
+  limit-kept calls = ap nameLimitFor (size-kept calls)
 
   -- after any calls, every name reads as its accepted appends joined in order, and as absent where there was none
-  pub reads-back : (calls : List Call) (name : List ℕ) → length name ≤ nameLimit → ReadsAs (play calls w) name (joined name calls w)
-  reads-back calls name short = reads-as (history calls .sound) name short (joined name calls w) (says calls name)
+  reads-now : (calls : List Call) (name : List ℕ) → length name ≤ nameLimitOf (play calls w .state)
+      → ReadsAs (play calls w) name (joined name calls w)
+  reads-now calls name short = reads-as (history calls .sound) name short (joined name calls w) (says calls name)
+
+  pub reads-back : (calls : List Call) (name : List ℕ) → length name ≤ nameLimitOf (w .state)
+      → ReadsAs (play calls w) name (joined name calls w)
+  reads-back calls name short =
+      reads-now calls name (subst (λ (n : ℕ). length name ≤ n) (sym (limit-kept calls)) short)
 
   -- a name that doesn't stand was never accepted
   never : (calls : List Call) (name : List ℕ) → (Stands (history calls .ghosts) name → ⊥) → joined name calls w ≡ none
@@ -114,12 +128,17 @@ module _ (capacity seed : ℕ) (table keys lists : List ℕ) (w : World) (B : Bo
       go (some bs) e s = absurd (f (s .0))
 
   -- a name over the limit is never accepted, and each lookup of it is refusal 3
-  pub long-never : (calls : List Call) (name : List ℕ) → nameLimit < length name
+  refused-now : (calls : List Call) (name : List ℕ) → nameLimitOf (play calls w .state) < length name
+      → lookupOf (play calls w .state) (play calls w .memory) name ≡ Failed 3
+  refused-now calls name long =
+      lookup-3 (play calls w .state) (play calls w .memory) name (history calls .sound .whole)
+      (kind-long (play calls w .state) (length name) long)
+
+  pub long-never : (calls : List Call) (name : List ℕ) → nameLimitOf (w .state) < length name
       → (joined name calls w ≡ none) × (lookupOf (play calls w .state) (play calls w .memory) name ≡ Failed 3)
   long-never calls name long = (
-    never calls name (λ m. omega (arith, history calls .sound .records name m .short)),
-    lookup-3 (play calls w .state) (play calls w .memory) name (history calls .sound .whole)
-        (kind-long (play calls w .state) (length name) long),
+    never calls name (λ m. omega (arith, limit-kept calls, record-short (history calls .sound .records name m))),
+    refused-now calls name (subst (λ (n : ℕ). n < length name) (sym (limit-kept calls)) long),
   )
 
   -- nor is the empty name
@@ -135,8 +154,8 @@ module _ (capacity seed : ℕ) (table keys lists : List ℕ) (w : World) (B : Bo
   unfolding among
   counts calls =
       history calls .counts [] (record {
-        many = born-sound capacity seed table keys lists w B .counted ∙ clears-count (roundedDown capacity);
-        all = λ j m. absurd (born-empty capacity seed table keys lists j m);
+        many = born-sound capacity seed size table keys lists w B .counted ∙ clears-count (roundedDown capacity);
+        all = λ j m. absurd (born-empty capacity seed size table keys lists j m);
         only = λ j m. absurd (false≢true m);
         once = λ j m. absurd (false≢true m);
       })
@@ -168,7 +187,7 @@ module _ (capacity seed : ℕ) (table keys lists : List ℕ) (w : World) (B : Bo
   pub numbers-exact : (calls : List Call) (c : Call)
       → numberOf c (play calls w) ≡ dueOf c (play calls w) (λ name. joined name calls w)
   numbers-exact calls =
-      number-due (play calls w) (λ name. joined name calls w) (history calls .sound .whole) (reads-back calls)
+      number-due (play calls w) (λ name. joined name calls w) (history calls .sound .whole) (reads-now calls)
       (refusals-exact calls) (acceptedNames calls w) (names-exact calls)
 
   pub numbers-listed : (calls : List Call) (c : Call) → isOneOf (numbersOf c) (numberOf c (play calls w)) ≡ true
@@ -207,9 +226,9 @@ module _ (capacity seed : ℕ) (table keys lists : List ℕ) (w : World) (B : Bo
       Later u = (k : ℕ) × (findBlockOf (u .state) (u .memory) name i ≡ Found (Block at k))
 
       go : (o : Option (List ℕ)) → joined name calls w ≡ o → Says v (H .ghosts) name o → Later (play (calls ++ more) w)
-      go none q s = absurd (nowhere (leb (length name) nameLimit) refl)
+      go none q s = absurd (nowhere (leb (length name) (nameLimitOf (w .state))) refl)
         where
-          nowhere : (b : Bool) → leb (length name) nameLimit ≡ b → ⊥
+          nowhere : (b : Bool) → leb (length name) (nameLimitOf (w .state)) ≡ b → ⊥
           nowhere true f =
               let p = subst (ReadsAs v name) q (reads-back calls name (leb-true _ _ f)) .no-block i in
               let z : _≡_ {A = ℕ} 0 1 = cc in omega arith
@@ -240,6 +259,7 @@ module _ (capacity seed : ℕ) (table keys lists : List ℕ) (w : World) (B : Bo
     reads-back = reads-back calls;
     long-never = long-never calls;
     nameless-never = nameless-never calls;
+    size-kept = size-kept calls;
     frames = frames calls;
     refusals-exact = refusals-exact calls;
     refused-unchanged = refused-unchanged calls;

@@ -10,7 +10,7 @@ use native.Mathlib.Omega.{arith}
 use lib.Dec.{leb, ltb}
 use lib.ListN.{length, getD}
 use borrow.Author.Tests.{leb-true, leb-false, ltb-true, ltb-false}
-use Rattle.limits.specs.Limits.{pageSize, nameLimit, recordExtra, valueSize, linkSize}
+use Rattle.limits.specs.Limits.{recordExtra, valueSize, linkSize}
 use Rattle.spans.specs.Span.{Apart}
 use Rattle.memory_arena.proofs.Laws.{standing-facts}
 use Rattle.murmurhash2.specs.Murmur.{murmurHash2}
@@ -26,6 +26,7 @@ use Rattle.store.specs.declared.Answer.{Answer}
 use Rattle.store.specs.declared.Answer.the-variants.{Absent, Found, Refused}
 use Rattle.store.specs.declared.Outcome.the-variants.{Block, NoSuchBlock}
 use Rattle.store.specs.State.{firstOf}
+use Rattle.store.specs.Name.{nameLimitOf}
 use Rattle.store.specs.Look.{onLookup, headerOf, blockAt, findBlockOf}
 use Rattle.store.specs.Append.{grows, grownState, tableGrown}
 use Rattle.store.proofs.Guard.{kind-long}
@@ -63,7 +64,7 @@ told-block : {w : World} {G : Ghosts} → Sound w G → (j : List ℕ) (i p n : 
 unfolding findBlockOf
 told-block {w} {G} S j i p n e = go (decide-member j (G .names))
   where
-    absent : (Stands G j → ⊥) → (b : Bool) → leb (length j) nameLimit ≡ b → BlockTold w G j i p n
+    absent : (Stands G j → ⊥) → (b : Bool) → leb (length j) (nameLimitOf (w .state)) ≡ b → BlockTold w G j i p n
     absent f true l = not-block (findBlockOf (w .state) (w .memory) j i) p n e (inl (reads-absent S j (leb-true _ _ l) f .no-block i))
     absent f false l =
         not-block (findBlockOf (w .state) (w .memory) j i) p n e
@@ -79,7 +80,7 @@ told-block {w} {G} S j i p n e = go (decide-member j (G .names))
 
     go : Dec (Stands G j) → BlockTold w G j i p n
     go (yes M) = here M (ltb i (blockCount (G .header j))) refl
-    go (no f) = absent f (leb (length j) nameLimit) refl
+    go (no f) = absent f (leb (length j) (nameLimitOf (w .state))) refl
 
 module _ {w : World} {G : Ghosts} (S : Sound w G) (name bytes : List ℕ) (w′ : World) (T : Took w G name bytes w′) where
   L : Leaves w G name bytes w′ (T .ghosts)
@@ -117,7 +118,7 @@ module _ {w : World} {G : Ghosts} (S : Sound w G) (name bytes : List ℕ) (w′ 
         arith,
         ap (λ (h : Header). h .tail) (L .list-new f),
         list-short S,
-        standing-facts pageSize (w .state .«list_arena») (length m) (list-stands S) .in-memory,
+        standing-facts (w .state .«list_arena») (length m) (list-stands S) .in-memory,
       )))
 
   lists-outside : (q n : ℕ) → ApartFromBlocks m′ (headerOf (w′ .memory .keys) (T .ghosts .place name)) q n → Kept m m′ q n

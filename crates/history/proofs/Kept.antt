@@ -9,8 +9,7 @@ use mathlib.Core.List.{List, [], _++_}
 use native.Mathlib.Nat.{le-refl}
 use native.Mathlib.Omega.{arith}
 use lib.ListN.{length, getD}
-use borrow.Author.Tests.{leb-true}
-use Rattle.limits.specs.Limits.{pageSize, arenaLimit, nameLimit, recordExtra, valueSize}
+use Rattle.limits.specs.Limits.{arenaLimit, recordExtra, valueSize}
 use Rattle.fastcmp.specs.Equal.{equalBytes}
 use Rattle.fastcmp.proofs.Laws.{equal-same, equal-not}
 use Rattle.spans.specs.Span.{overwrite, Apart}
@@ -20,7 +19,7 @@ use Rattle.memory_arena.specs.declared.Arena.{Arena}
 use Rattle.memory_arena.specs.declared.Allocated.the-variants.{At}
 use Rattle.memory_arena.specs.Address.{placeOf}
 use Rattle.memory_arena.specs.Pages.{standing, roomFor}
-use Rattle.memory_arena.proofs.Laws.{place-of, Room, room-facts, room-in, Sensible, sensible-facts}
+use Rattle.memory_arena.proofs.Laws.{place-of, Room, room-size, room-facts, room-in, Sensible, sensible-facts, sensible-short}
 use Rattle.shared_arena_hashmap.specs.Power.{grownLength}
 use Rattle.shared_arena_hashmap.specs.Probe.{valuePlace}
 use Rattle.shared_arena_hashmap.specs.Grow.{entered}
@@ -34,7 +33,7 @@ use Rattle.store.specs.State.{firstOf}
 use Rattle.store.specs.Name.{nameKind}
 use Rattle.store.specs.Look.{lent, checked}
 use Rattle.store.specs.Append.{isCrowded, grows, grownState, stateGrown, tableGrown, movedState, recordBytes}
-use Rattle.store.proofs.Guard.{kind-length}
+use Rattle.store.proofs.Guard.{kind-length, kind-short}
 use Rattle.store.proofs.Cases.{table-stays}
 use Rattle.history_lanes.specs.Lane.{content, TipClear, usedEnd, Lane, After}
 use Rattle.history_lanes.proofs.Blocks.{apart-within}
@@ -92,7 +91,7 @@ pub record Leaves (w : World) (G : Ghosts) (name bytes : List ℕ) (w′ : World
   pub place-kept : Stands G name → G′ .place name ≡ G .place name
   pub keys-used : Stands G name → w′ .state .«key_arena» ≡ w .state .«key_arena»
   pub keys-room : (Stands G name → ⊥)
-      → roomFor pageSize (w .state .«key_arena») (length (w .memory .keys)) (length name + recordExtra)
+      → roomFor (w .state .«key_arena») (length (w .memory .keys)) (length name + recordExtra)
       ≡ At (G′ .place name) (w′ .state .«key_arena»)
   pub keys-above : (Stands G name → ⊥) → (usedEnd (w .state .«key_arena») ≤ G′ .place name)
       × (usedEnd (w′ .state .«key_arena») ≡ G′ .place name + (length name + recordExtra))
@@ -129,17 +128,17 @@ module _ {w : World} {G : Ghosts} (S : Sound w G) where
   list-sense : Sensible (w .state .«list_arena») (length (w .memory .lists))
   list-sense = sensible-facts (w .state .«list_arena») (length (w .memory .lists)) (sound-whole S .list-arena)
 
-  pub key-stands : standing pageSize (w .state .«key_arena») (length (w .memory .keys)) ≡ true
+  pub key-stands : standing (w .state .«key_arena») (length (w .memory .keys)) ≡ true
   key-stands = key-sense .stands
 
-  pub list-stands : standing pageSize (w .state .«list_arena») (length (w .memory .lists)) ≡ true
+  pub list-stands : standing (w .state .«list_arena») (length (w .memory .lists)) ≡ true
   list-stands = list-sense .stands
 
   pub key-short : length (w .memory .keys) ≤ arenaLimit
-  key-short = leb-true _ _ (key-sense .short)
+  key-short = sensible-short (w .state .«key_arena») (length (w .memory .keys)) (sound-whole S .key-arena)
 
   pub list-short : length (w .memory .lists) ≤ arenaLimit
-  list-short = leb-true _ _ (list-sense .short)
+  list-short = sensible-short (w .state .«list_arena») (length (w .memory .lists)) (sound-whole S .list-arena)
 
   -- ---- the lists
 
@@ -285,7 +284,7 @@ module _ {w : World} {G : Ghosts} (S : Sound w G) where
 
   module _ (name bytes : List ℕ) (M : Stands G name → ⊥) (proper : nameKind (w .state) (length name) ≡ Proper)
       (loose : isCrowded (w .state) ≡ false) (at : ℕ) (ka : Arena)
-      (r : roomFor pageSize (w .state .«key_arena») (length (w .memory .keys)) (length name + recordExtra) ≡ At at ka) (v : Writing)
+      (r : roomFor (w .state .«key_arena») (length (w .memory .keys)) (length name + recordExtra) ≡ At at ka) (v : Writing)
       (e : appended bytes (writing (w .memory .lists) (w .state .«list_arena») fresh) ≡ some v) where
     abbrev pub new-left : World
     new-left = record {
@@ -300,18 +299,15 @@ module _ {w : World} {G : Ghosts} (S : Sound w G) where
     new-after =
         lane-appended (w .memory .lists) (w .state .«list_arena») fresh [] bytes v (lane-fresh (w .memory .lists) (w .state .«list_arena») list-stands list-short) e
 
-    room : Room pageSize (w .state .«key_arena») (length (w .memory .keys)) (length name + recordExtra) at ka
-    room = room-facts pageSize (w .state .«key_arena») (length (w .memory .keys)) (length name + recordExtra) at ka (omega arith) key-stands r
-
-    its-length : (0 < length name) × (length name ≤ nameLimit)
-    its-length = kind-length (w .state) (length name) Proper proper
+    room : Room (w .state .«key_arena») (length (w .memory .keys)) (length name + recordExtra) at ka
+    room = room-facts (w .state .«key_arena») (length (w .memory .keys)) (length name + recordExtra) at ka (omega arith) key-stands r
 
     new-in : at + (length name + recordExtra) ≤ length (w .memory .keys)
-    new-in = room-in pageSize (w .state .«key_arena») (length (w .memory .keys)) (length name + recordExtra) at ka (omega arith) key-stands r
+    new-in = room-in (w .state .«key_arena») (length (w .memory .keys)) (length name + recordExtra) at ka (omega arith) key-stands r
 
-    new-paged : placeOf pageSize at + (length name + recordExtra) ≤ pageSize
+    new-paged : placeOf (ka .size) at + (length name + recordExtra) ≤ ka .size
     new-paged =
-        rw (room .page-on, place-of pageSize (ka .page) (ka .used - (length name + recordExtra)) (omega (arith, room .wide, room .after .in-page)))
+        rw (room .page-on, place-of (ka .size) (ka .page) (ka .used - (length name + recordExtra)) (omega (arith, room .wide, room .after .in-page)))
         (omega (arith, room .wide, room .after .in-page))
 
     -- the records that stand lie below the new one
@@ -333,11 +329,12 @@ module _ {w : World} {G : Ghosts} (S : Sound w G) where
         → Record (overwrite at (recordBytes name (v .header)) (w .memory .keys)) ka (new-ghosts g .place j) j (new-ghosts g .header j)
     new-record g j (inl q) =
         rw (updated-same (G .place) name at j q, updated-same (G .header) name (v .header) j q, q)
-        (record-written (w .memory .keys) ka at name (v .header) (its-length .0) (its-length .1)
+        (record-written (w .memory .keys) ka at name (v .header) (kind-length (w .state) (length name) Proper proper .0)
+        (kind-short (w .state) (length name) proper)
         (omega (arith, room .end)) new-paged new-in)
     new-record g j (inr m) =
         rw (updated-other (G .place) name at j (other j m), updated-other (G .header) name (v .header) j (other j m))
-        (record-up (omega (arith, room .above, room .end))
+        (record-up (room-size (w .state .«key_arena») (length (w .memory .keys)) (length name + recordExtra) at ka r) (omega (arith, room .above, room .end))
         (record-kept (S .records j m) at (recordBytes name (v .header)) (inr (new-below j m))))
 
     new-apart : (g : Names) (j n : List ℕ) → (j ≡ name) ⊎ Stands G j → (n ≡ name) ⊎ Stands G n → (j ≡ n → ⊥) → RecordsApart (new-ghosts g) j n

@@ -1,12 +1,19 @@
--- Histories one behind the other: the world, the log, and what the log comes to. Assumes nothing.
+-- Histories one behind the other: the world, the log, and what the log comes to; and the page size, which no call
+-- changes. Assumes nothing.
 use Prim.Native.Nat.{ℕ}
 use mathlib.Core.Path.{_≡_, refl, sym, ap, _∙_}
 use mathlib.Core.Bool.{cond}
 use mathlib.Core.Option.{Option}
 use mathlib.Core.List.{List, [], _∷_, _++_, append-assoc}
 use Rattle.fastcmp.specs.Equal.{equalBytes}
-use Rattle.history.specs.History.{World, Call, after, play, Entry, logged, logOf, joinedOn, joinedIn}
-use Rattle.history.specs.History.{withName, namesIn}
+use Rattle.store.specs.declared.State.{State}
+use Rattle.store.specs.declared.Appended.{Appended}
+use Rattle.store.specs.declared.Appended.the-variants.{Accepted, Declined}
+use Rattle.store.specs.Append.{Out}
+use Rattle.store.proofs.Promises.{promises}
+use Rattle.history.specs.History.{World, Call, appends, looksUp, asksLength, reads, findsBlock, showsBlock}
+use Rattle.history.specs.History.{listsFrom, countsKeys, appendIn, stateAfter, after, play}
+use Rattle.history.specs.History.{Entry, logged, logOf, joinedOn, joinedIn, withName, namesIn}
 
 -- ---- of histories
 
@@ -21,6 +28,31 @@ log-more [] ys w = refl
 log-more (c ∷ xs) ys w =
     ap (λ (log : List Entry). logged c w ++ log) (log-more xs ys (after c w))
     ∙ sym (append-assoc (logged c w) (logOf xs (after c w)) (logOf ys (play xs (after c w))))
+
+-- ---- the page size
+
+call-size : (c : Call) (w : World) → after c w .state .«key_arena» .size ≡ w .state .«key_arena» .size
+call-size (appends name bytes) w = go (appendIn w name bytes .answer) refl
+  where
+    go : (r : Appended) → appendIn w name bytes .answer ≡ r
+        → stateAfter r .«key_arena» .size ≡ w .state .«key_arena» .size
+    go (Accepted s) e = promises .append-size (w .state) (w .memory) name bytes s e
+    go (Declined s n) e =
+        ap (λ (r : Appended). stateAfter r .«key_arena» .size) (sym e)
+        ∙ ap (λ (o : Out). stateAfter (o .answer) .«key_arena» .size)
+        (promises .append-refused (w .state) (w .memory) name bytes s n e)
+call-size (looksUp name) w = refl
+call-size (asksLength name) w = refl
+call-size (reads name output) w = refl
+call-size (findsBlock name i) w = refl
+call-size (showsBlock at n) w = refl
+call-size (listsFrom i) w = refl
+call-size countsKeys w = refl
+
+pub play-size : (calls : List Call) (w : World) → play calls w .state .«key_arena» .size ≡ w .state .«key_arena» .size
+unfolding play
+play-size [] w = refl
+play-size (c ∷ calls) w = play-size calls (after c w) ∙ call-size c w
 
 -- ---- of logs
 

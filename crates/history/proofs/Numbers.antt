@@ -8,7 +8,7 @@ use mathlib.Core.List.{List, [], _∷_}
 use lib.Dec.{leb, ltb}
 use lib.ListN.{length}
 use borrow.Author.Tests.{leb-true, leb-false, ltb-true, ltb-false}
-use Rattle.limits.specs.Limits.{pageSize, nameLimit, recordExtra}
+use Rattle.limits.specs.Limits.{recordExtra}
 use Rattle.memory_arena.specs.declared.Arena.{Arena}
 use Rattle.memory_arena.specs.declared.Allocated.{Allocated}
 use Rattle.memory_arena.specs.declared.Allocated.the-variants.{At as Room·At, NoRoom, Refused as Room·Refused}
@@ -23,7 +23,7 @@ use Rattle.store.specs.declared.Name.{Name}
 use Rattle.store.specs.declared.Name.the-variants.{TooLong, Nameless, Proper}
 use Rattle.store.specs.declared.Listed.{Listed}
 use Rattle.store.specs.declared.Listed.the-variants.{Bucket, NoMore, Stopped}
-use Rattle.store.specs.Name.{nameKind, byKind}
+use Rattle.store.specs.Name.{nameLimitOf, nameKind, byKind}
 use Rattle.store.specs.Look.{Lent, checked, Read, lookupOf, onLookup, onLookupRead, lengthAt, lengthOf, readAt, readOf}
 use Rattle.store.specs.Look.{blockAt, findBlockOf, nextOf}
 use Rattle.store.specs.Append.{isCrowded}
@@ -60,7 +60,7 @@ unfolding dueNew
 listed-new st m name n = go (isCrowded st)
   where
     room : Allocated
-    room = roomFor pageSize (st .«key_arena») (length (m .keys)) (length name + recordExtra)
+    room = roomFor (st .«key_arena») (length (m .keys)) (length name + recordExtra)
 
     go : (b : Bool) → isOneOf dueNumbers (cond b 5 (dueRecord room (dueList st m fresh n))) ≡ true
     go true = refl
@@ -142,7 +142,7 @@ never-these c n e = (other 2 (no-2 c), other 4 (no-4 c))
 -- ---- the number that a call's answer has
 
 module _ (w : World) (stood : List ℕ → Option (List ℕ)) (whole : checked (w .state) (w .memory) ≡ true)
-    (R : (name : List ℕ) → length name ≤ nameLimit → ReadsAs w name (stood name)) (name : List ℕ) where
+    (R : (name : List ℕ) → length name ≤ nameLimitOf (w .state) → ReadsAs w name (stood name)) (name : List ℕ) where
   abbrev kind : Name
   kind = nameKind (w .state) (length name)
 
@@ -216,7 +216,7 @@ unstopped-number NoMore f = refl
 unstopped-number (Stopped n) f = absurd (f n refl)
 
 module _ (w : World) (stood : List ℕ → Option (List ℕ)) (whole : checked (w .state) (w .memory) ≡ true)
-    (R : (name : List ℕ) → length name ≤ nameLimit → ReadsAs w name (stood name))
+    (R : (name : List ℕ) → length name ≤ nameLimitOf (w .state) → ReadsAs w name (stood name))
     (A : (name bytes : List ℕ) → AnswersDue w name bytes (due (w .state) (w .memory) name (stood name) (length bytes)))
     (ns : List (List ℕ)) (N : HasNames w ns) where
   -- every call's answer has the number that the call is due

@@ -10,7 +10,6 @@ use native.Mathlib.Omega.{arith}
 use lib.Dec.{leb}
 use lib.ListN.{length}
 use borrow.Author.Tests.{le-leb, lt-leb}
-use Rattle.limits.specs.Limits.{nameLimit}
 use Rattle.numbers.proofs.Tests.{both-true}
 use Rattle.spans.specs.Span.{readSpan, overwrite}
 use Rattle.shared_arena_hashmap.specs.declared.Met.the-variants.{Empty, Standing, Lap}
@@ -26,7 +25,7 @@ use Rattle.store.specs.declared.Lookup.{Lookup}
 use Rattle.store.specs.declared.Lookup.the-variants.{At, Missing}
 use Rattle.store.specs.declared.Answer.the-variants.{Found, Refused}
 use Rattle.store.specs.declared.Outcome.the-variants.{Length, Reading, Block, NoSuchBlock}
-use Rattle.store.specs.Name.{nameKind}
+use Rattle.store.specs.Name.{nameLimitOf, nameKind}
 use Rattle.store.specs.Look.{Lent, lookupOf, onLookup, onLookupRead, headerOf, lengthAt, lengthOf, reading, readAt}
 use Rattle.store.specs.Look.{readOf, onBlock, blockAt, findBlockOf, blocksSound}
 use Rattle.store.proofs.Guard.{kind-length}
@@ -67,7 +66,7 @@ module _ {w : World} {G : Ghosts} (S : Sound w G) (name : List ℕ) where
 
     pub lookup-finds : lookupOf st m name ≡ At at
     lookup-finds =
-        lookup-met st m name (Standing at) (S .whole) (record-proper (S .records name M) st) (walk-finds S name M)
+        lookup-met st m name (Standing at) (S .whole) (record-proper (S .records name M) st refl) (walk-finds S name M)
 
     headed : Headed (m .keys) at h
     headed = record { sound = header-fine S name M; is = sym (header-is S name M); ends = fits S name M .sound }
@@ -148,7 +147,7 @@ module _ {w : World} {G : Ghosts} (S : Sound w G) (name : List ℕ) where
 
   -- ---- any other
 
-  module _ (short : length name ≤ nameLimit) (M : Stands G name → ⊥) where
+  module _ (short : length name ≤ nameLimitOf st) (M : Stands G name → ⊥) where
     unlooked : lookupOf st m name ≡ Missing
     unlooked = go (nameKind st (length name)) refl
       where
@@ -168,6 +167,6 @@ module _ {w : World} {G : Ghosts} (S : Sound w G) (name : List ℕ) where
       no-block = λ i. ap (λ (l : Lookup). onLookup l (blockAt st m i)) unlooked;
     }
 
-  pub reads-as : length name ≤ nameLimit → (o : Option (List ℕ)) → Says w G name o → ReadsAs w name o
+  pub reads-as : length name ≤ nameLimitOf st → (o : Option (List ℕ)) → Says w G name o → ReadsAs w name o
   reads-as short none s = reads-absent short s
   reads-as short (some bs) s = subst (ReadsBack w name) (s .1) (reads-standing (s .0))

@@ -6,7 +6,7 @@ use mathlib.Core.List.{List, _++_}
 use native.Mathlib.Nat.{le-refl}
 use native.Mathlib.Omega.{arith}
 use lib.ListN.{length, length-append}
-use Rattle.limits.specs.Limits.{pageSize, nameLimit, recordExtra, valueSize}
+use Rattle.limits.specs.Limits.{nameLimit, nameLimitFor, recordExtra, valueSize}
 use Rattle.numbers.specs.LittleEndian.{leBytes}
 use Rattle.numbers.proofs.Laws.{length-le, le-round}
 use Rattle.numbers.proofs.Tests.{both-true}
@@ -34,13 +34,18 @@ use Rattle.history.specs.Sound.{Record}
 -- ---- what is read in it
 
 module _ {keys : List ℕ} {a : Arena} {at : ℕ} {k : List ℕ} {h : Header} (R : Record keys a at k h) where
+  -- its name is within the limit of a store with such pages
+  pub record-short : length k ≤ nameLimitFor (a .size)
+  record-short = omega (arith, R .short, R .paged)
+
   pub record-length : keyLength keys at ≡ length k
   unfolding keyLength
   record-length = rw (R .size) (le-round 2 (length k) (omega (arith, R .short)))
 
   -- a store looks its name up
-  pub record-proper : (st : State) → nameKind st (length k) ≡ Proper
-  record-proper st = kind-proper st (length k) (R .some) (R .short)
+  pub record-proper : (st : State) → st .«key_arena» .size ≡ a .size → nameKind st (length k) ≡ Proper
+  record-proper st e =
+      kind-proper st (length k) (R .some) (subst (λ (s : ℕ). length k ≤ nameLimitFor s) (sym e) record-short)
 
   pub record-place : valuePlace keys at ≡ at + 2 + length k
   unfolding valuePlace
@@ -50,17 +55,17 @@ module _ {keys : List ℕ} {a : Arena} {at : ℕ} {k : List ℕ} {h : Header} (R
   unfolding keyAt
   record-key = rw record-length (R .key)
 
-  module _ (s : standing pageSize a (length keys) ≡ true) where
+  module _ (s : standing a (length keys) ≡ true) where
     pub record-good : goodRecord a keys at ≡ true
     unfolding goodRecord
     record-good =
-        let u = standing-facts pageSize a (length keys) s .in-page in
+        let u = standing-facts a (length keys) s .in-page in
         rw record-length
-        (both-true _ _ (good-below pageSize a at 2 (omega arith) (omega (arith, R .paged)) (omega (arith, R .ends)) u)
-        (good-below pageSize a at (length k + recordExtra) (omega arith) (R .paged) (R .ends) u))
+        (both-true _ _ (good-below a at 2 (omega arith) (omega (arith, R .paged)) (omega (arith, R .ends)) u)
+        (good-below a at (length k + recordExtra) (omega arith) (R .paged) (R .ends) u))
 
     pub record-in : at + (length k + recordExtra) ≤ length keys
-    record-in = omega (arith, R .ends, standing-facts pageSize a (length keys) s .in-memory)
+    record-in = omega (arith, R .ends, standing-facts a (length keys) s .in-memory)
 
     -- the memory is what writing the header that stands there leaves
     rewritten : overwrite (at + 2 + length k) (headerBytes h) keys ≡ keys
@@ -105,19 +110,20 @@ record-kept {keys} {a} {at} {k} {h} R p bs d = record {
         (apart-within p (length bs) at (length k + recordExtra) p (length bs) q n (le-refl p) (le-refl (p + length bs)) x y d)
 
 -- a used part that grows
-pub record-up : {keys : List ℕ} {a b : Arena} {at : ℕ} {k : List ℕ} {h : Header} → usedEnd a ≤ usedEnd b → Record keys a at k h → Record keys b at k h
-record-up g R = record {
+pub record-up : {keys : List ℕ} {a b : Arena} {at : ℕ} {k : List ℕ} {h : Header} → b .size ≡ a .size
+    → usedEnd a ≤ usedEnd b → Record keys a at k h → Record keys b at k h
+record-up {at = at} {k = k} e g R = record {
   some = R .some;
   short = R .short;
   ends = omega (arith, R .ends);
-  paged = R .paged;
+  paged = subst (λ (s : ℕ). placeOf s at + (length k + recordExtra) ≤ s) (sym e) (R .paged);
   size = R .size;
   key = R .key;
   value = R .value;
 }
 
 -- another header in it
-pub record-revalued : {keys : List ℕ} {a : Arena} {at : ℕ} {k : List ℕ} {h : Header} → Record keys a at k h → standing pageSize a (length keys) ≡ true → (g : Header)
+pub record-revalued : {keys : List ℕ} {a : Arena} {at : ℕ} {k : List ℕ} {h : Header} → Record keys a at k h → standing a (length keys) ≡ true → (g : Header)
     → Record (overwrite (at + 2 + length k) (headerBytes g) keys) a at k g
 record-revalued {keys} {a} {at} {k} {h} R s g = record {
   some = R .some;
@@ -143,7 +149,7 @@ length-record k h =
 -- a whole record
 pub record-written : (keys : List ℕ) (a : Arena) (at : ℕ) (k : List ℕ) (h : Header) → 0 < length k
     → length k ≤ nameLimit → at + (length k + recordExtra) ≤ usedEnd a
-    → placeOf pageSize at + (length k + recordExtra) ≤ pageSize → at + (length k + recordExtra) ≤ length keys
+    → placeOf (a .size) at + (length k + recordExtra) ≤ a .size → at + (length k + recordExtra) ≤ length keys
     → Record (overwrite at (recordBytes k h) keys) a at k h
 record-written keys a at k h z s e p i =
     subst (λ (m : List ℕ). Record m a at k h) (three-writes at k h keys) (record {

@@ -9,7 +9,7 @@ use native.Mathlib.Omega.{arith}
 use lib.Dec.{eqb}
 use lib.ListN.{length}
 use borrow.Author.Tests.{eqb-true, eqb-false}
-use Rattle.limits.specs.Limits.{pageSize, linkSize}
+use Rattle.limits.specs.Limits.{linkSize}
 use Rattle.spans.specs.Span.{readSpan, Apart}
 use Rattle.memory_arena.specs.declared.Arena.{Arena}
 use Rattle.memory_arena.proofs.Laws.{good-end}
@@ -117,7 +117,7 @@ told-below m a h (x ∷ y ∷ ks) L i k = go (eqb i (suc (length ks))) refl
 
 module _ (m : List ℕ) (a : Arena) (h : Header) (ks bs m′ : List ℕ) (a′ : Arena) (h′ : Header) (ks′ : List ℕ) (A : After m a h ks bs m′ a′ h′ ks′) where
   told-used : (g : Header) (js : List ℕ) → Lane m a g js → (i : ℕ) → i < blockCount g → blockPlace m (g .head) i + blockLength g i ≤ usedEnd a
-  told-used g js L i k = good-end pageSize a (blockPlace m (g .head) i) (blockLength g i) (length m) (L .stands) (lane-block m a g js L i k .good)
+  told-used g js L i k = good-end a (blockPlace m (g .head) i) (blockLength g i) (length m) (L .stands) (lane-block m a g js L i k .good)
 
   -- of its own lane
   pub told-own : Lane m a h ks → (i : ℕ) → i < blockCount h

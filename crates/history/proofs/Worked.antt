@@ -14,7 +14,7 @@ use Rattle.history.specs.Cases.{calls, start, born, lane-a, nine, joined
 use Rattle.history.proofs.Demand.{demand-3}
 
 pub worked : Demand3 start calls
-worked = demand-3 1 0 (replicate 18 7) (replicate 64 7) (replicate 64 7) start born calls
+worked = demand-3 1 0 65536 (replicate 18 7) (replicate 64 7) (replicate 64 7) start born calls
 
 pub worked-reading : readOf (play calls start .state) (play calls start .memory) lane-a (replicate 10 0)
     ≡ reading (Found (Reading 9)) (1 ∷ 2 ∷ 3 ∷ 4 ∷ 5 ∷ 6 ∷ 7 ∷ 8 ∷ 9 ∷ 0 ∷ [])

@@ -43,11 +43,11 @@ calls = appends lane-a three ∷ appends lane-b [] ∷ appends long-c (1 ∷ [])
 -- created with capacity 1 and seed 0 on memory that isn't clear
 abbrev pub start : World
 start = record {
-  state = freshState 0 18 64 64 1;
+  state = freshState 0 65536 18 64 64 1;
   memory = lent (cleared 0 1 (replicate 18 7)) (replicate 64 7) (replicate 64 7);
 }
 
-pub born : Born 1 0 (replicate 18 7) (replicate 64 7) (replicate 64 7) start
+pub born : Born 1 0 65536 (replicate 18 7) (replicate 64 7) (replicate 64 7) start
 unfolding createOf
 born = record { made = refl; keys-as-lent = refl; lists-as-lent = refl }
 
@@ -92,7 +92,7 @@ number-cases = (refl, refl, refl, refl, refl, refl, refl, refl, refl)
 -- and a byte less
 abbrev tight : World
 tight = record {
-  state = freshState 0 2 64 12 1;
+  state = freshState 0 65536 2 64 12 1;
   memory = lent (cleared 0 1 (replicate 2 7)) (replicate 64 7) (replicate 12 7);
 }
 

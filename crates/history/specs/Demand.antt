@@ -8,10 +8,10 @@ use mathlib.Core.Bool.{true}
 use mathlib.Core.Option.{none}
 use mathlib.Core.List.{List, [], _++_}
 use lib.ListN.{length}
-use Rattle.limits.specs.Limits.{nameLimit}
 use Rattle.store.specs.declared.Lookup.the-variants.{Failed}
 use Rattle.store.specs.declared.Answer.the-variants.{Found}
 use Rattle.store.specs.declared.Outcome.the-variants.{Block}
+use Rattle.store.specs.Name.{nameLimitOf}
 use Rattle.store.specs.Look.{checked, lookupOf, findBlockOf}
 use Rattle.history.specs.History.{World, Call, appends, accepts, after, play, logOf, joined, isJoined}
 use Rattle.history.specs.History.{among, acceptedNames}
@@ -20,13 +20,14 @@ use Rattle.history.specs.Numbers.{numberOf, dueOf, numbersOf, isOneOf}
 use Rattle.history.specs.Promises.{ReadsAs, AnswersDue, HasNames}
 use Rattle.history.specs.Frames.{LeavesAlone}
 
--- RULES Y3 to Y8, Y13.
+-- RULES B9, Y3 to Y8, Y13.
 pub record Demand3 (w : World) (calls : List Call) : Type 0 where
   -- "From a fresh store, after any calls, each lane reads as its accepted appends joined, worked out afresh from the
   -- history; a name never accepted is absent"
-  pub reads-back : (name : List ℕ) → length name ≤ nameLimit → ReadsAs (play calls w) name (joined name calls w)
+  pub reads-back : (name : List ℕ) → length name ≤ nameLimitOf (w .state)
+      → ReadsAs (play calls w) name (joined name calls w)
   -- and so of a name over the limit: none was ever accepted, and its lookup is refusal 3
-  pub long-never : (name : List ℕ) → nameLimit < length name
+  pub long-never : (name : List ℕ) → nameLimitOf (w .state) < length name
       → (joined name calls w ≡ none) × (lookupOf (play calls w .state) (play calls w .memory) name ≡ Failed 3)
   -- and of the empty name (document 02, Seven): none was ever accepted, so it reads as absent
   pub nameless-never : joined [] calls w ≡ none
@@ -46,6 +47,8 @@ pub record Demand3 (w : World) (calls : List Call) : Type 0 where
   pub whole : checked (play calls w .state) (play calls w .memory) ≡ true
   -- "Nothing lent changes on a refusal; the state comes back equal"
   pub refused-unchanged : (c : Call) → numberOf c (play calls w) ≢ 0 → after c (play calls w) ≡ play calls w
+  -- document 02, Nine: "The state keeps it", the page size that the store was created with
+  pub size-kept : play calls w .state .«key_arena» .size ≡ w .state .«key_arena» .size
   -- "the number of distinct accepted names": it is the number of keys, and listing tells each of them once and no other
   pub names-exact : HasNames (play calls w) (acceptedNames calls w)
   pub names-joined : (name : List ℕ) → among name (acceptedNames calls w) ≡ isJoined (joined name calls w)

@@ -7,7 +7,7 @@ use mathlib.Core.Option.{Option, none, some}
 use mathlib.Core.List.{List}
 use lib.Dec.{eqb}
 use lib.ListN.{length}
-use Rattle.limits.specs.Limits.{pageSize, nullAddress, recordExtra}
+use Rattle.limits.specs.Limits.{nullAddress, recordExtra}
 use Rattle.memory_arena.specs.declared.Arena.{Arena}
 use Rattle.memory_arena.specs.declared.Allocated.{Allocated}
 use Rattle.memory_arena.specs.declared.Allocated.the-variants.{At, NoRoom, Refused}
@@ -59,7 +59,7 @@ unfoldable pub dueNew : State → Lent → List ℕ → ℕ → ℕ
 unfolding dueList roomFor
 dueNew st m name n =
     cond (isCrowded st) 5
-    (dueRecord (roomFor pageSize (st .«key_arena») (length (m .keys)) (length name + recordExtra))
+    (dueRecord (roomFor (st .«key_arena») (length (m .keys)) (length name + recordExtra))
     (dueList st m fresh n))
 
 -- RULES Y7. For a name that stands with so many bytes, or doesn't stand

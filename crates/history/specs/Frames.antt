@@ -7,7 +7,7 @@ use mathlib.Core.Bool.{true, false}
 use mathlib.Core.Option.{Option}
 use mathlib.Core.List.{List}
 use lib.ListN.{length, getD}
-use Rattle.limits.specs.Limits.{pageSize, recordExtra, valueSize, linkSize}
+use Rattle.limits.specs.Limits.{recordExtra, valueSize, linkSize}
 use Rattle.spans.specs.Span.{readSpan, Apart}
 use Rattle.murmurhash2.specs.Murmur.{murmurHash2}
 use Rattle.memory_arena.specs.declared.Allocated.the-variants.{At as Room·At}
@@ -81,7 +81,7 @@ pub record LeavesAlone (w w′ : World) (name : List ℕ) (stood : Option (List 
   -- a new name's lies at the used end of the current key page, or at place 0 of the next, and so much more is used;
   -- it is above all that was used. A standing name uses no more.
   pub keys-room : isJoined stood ≡ false
-      → roomFor pageSize (w .state .«key_arena») (length (keysIn w)) (length name + recordExtra)
+      → roomFor (w .state .«key_arena») (length (keysIn w)) (length name + recordExtra)
       ≡ Room·At at (w′ .state .«key_arena»)
   pub keys-above : isJoined stood ≡ false
       → (keysEnd w ≤ at) × (keysEnd w′ ≡ at + (length name + recordExtra))

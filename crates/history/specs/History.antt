@@ -70,8 +70,8 @@ play [] w = w
 play (c ∷ calls) w = play calls (after c w)
 
 -- RULES Y1. The start: what an accepted creation leaves of the lent table, key pages and list pages, whatever they held
-pub record Born (capacity seed : ℕ) (table keys lists : List ℕ) (w : World) : Type 0 where
-  pub made : createOf capacity seed table (length keys) (length lists) ≡ out (Made (w .state)) (w .memory .table)
+pub record Born (capacity seed size : ℕ) (table keys lists : List ℕ) (w : World) : Type 0 where
+  pub made : createOf capacity seed size table (length keys) (length lists) ≡ out (Made (w .state)) (w .memory .table)
   pub keys-as-lent : w .memory .keys ≡ keys
   pub lists-as-lent : w .memory .lists ≡ lists
 

@@ -5,7 +5,7 @@ use mathlib.Core.Path.{_≡_}
 use mathlib.Core.Bool.{true}
 use mathlib.Core.List.{List, [], _∷_}
 use lib.ListN.{length}
-use Rattle.limits.specs.Limits.{pageSize, nameLimit, recordExtra, valueSize}
+use Rattle.limits.specs.Limits.{nameLimit, recordExtra, valueSize}
 use Rattle.numbers.specs.LittleEndian.{leBytes}
 use Rattle.spans.specs.Span.{readSpan, Apart}
 use Rattle.murmurhash2.specs.Murmur.{murmurHash2}
@@ -25,7 +25,7 @@ pub record Record (keys : List ℕ) (a : Arena) (at : ℕ) (k : List ℕ) (h : H
   pub some : 0 < length k
   pub short : length k ≤ nameLimit
   pub ends : at + (length k + recordExtra) ≤ usedEnd a
-  pub paged : placeOf pageSize at + (length k + recordExtra) ≤ pageSize
+  pub paged : placeOf (a .size) at + (length k + recordExtra) ≤ a .size
   pub size : readSpan at 2 keys ≡ leBytes 2 (length k)
   pub key : readSpan (at + 2) (length k) keys ≡ k
   pub value : readSpan (at + 2 + length k) valueSize keys ≡ headerBytes h

@@ -10,7 +10,7 @@ use native.Mathlib.Omega.{arith}
 use lib.Dec.{eqb}
 use lib.ListN.{length}
 use borrow.Author.Tests.{eq-eqb, ne-eqb, eqb-true, eqb-false}
-use Rattle.limits.specs.Limits.{pageSize, arenaLimit, freshNumber, linkSize}
+use Rattle.limits.specs.Limits.{arenaLimit, freshNumber, linkSize}
 use Rattle.numbers.specs.LittleEndian.{leBytes}
 use Rattle.numbers.proofs.Laws.{length-le}
 use Rattle.spans.specs.Span.{readSpan, overwrite, Apart}
@@ -20,7 +20,7 @@ use Rattle.memory_arena.specs.declared.Allocated.{Allocated}
 use Rattle.memory_arena.specs.declared.Allocated.the-variants.{At, NoRoom, Refused}
 use Rattle.memory_arena.specs.Address.{placeOf}
 use Rattle.memory_arena.specs.Pages.{standing, roomFor}
-use Rattle.memory_arena.proofs.Laws.{place-of, standing-facts, standing-made, Room, room-facts}
+use Rattle.memory_arena.proofs.Laws.{place-of, standing-facts, standing-made, Room, room-size, room-facts}
 use Rattle.expull.specs.declared.Header.{Header}
 use Rattle.expull.specs.Header.{blockSize, fresh}
 use Rattle.expull.proofs.Laws.Header.{size-pos}
@@ -37,9 +37,9 @@ record Loose (m : List ℕ) (a : Arena) (h : Header) (ks : List ℕ) : Type 0 wh
   number : h .number ≡ length ks + freshNumber
   links : Links m ks
   below : Below (usedEnd a) ks
-  paged : Paged ks
+  paged : Paged (a .size) ks
   tip : Tip h ks
-  stands : standing pageSize a (length m) ≡ true
+  stands : standing a (length m) ≡ true
   short : length m ≤ arenaLimit
 
 loosened : (m : List ℕ) (a : Arena) (h : Header) (ks : List ℕ) → Lane m a h ks → Loose m a h ks
@@ -78,6 +78,7 @@ record Step (m : List ℕ) (a : Arena) (h : Header) (ks bs m′ : List ℕ) (a�
   newer : List ℕ
   grown : ks′ ≡ newer ++ ks
   grows : usedEnd a ≤ usedEnd a′
+  size : a′ .size ≡ a .size
   len : length m′ ≡ length m
 
 step-none : (m : List ℕ) (a : Arena) (h : Header) (ks : List ℕ) → Step m a h ks [] m a h ks
@@ -96,6 +97,7 @@ step-none m a h ks = record {
   newer = [];
   grown = refl;
   grows = le-refl (usedEnd a);
+  size = refl;
   len = refl;
 }
 
@@ -116,6 +118,7 @@ step-join m a h ks bs m′ a′ h′ ks′ cs m″ a″ h″ ks″ A B = record 
   newer = B .newer ++ A .newer;
   grown = B .grown ∙ ap (λ (l : List ℕ). B .newer ++ l) (A .grown) ∙ sym (append-assoc (B .newer) (A .newer) ks);
   grows = le-trans (A .grows) (B .grows);
+  size = B .size ∙ A .size;
   len = B .len ∙ A .len;
 }
   where
@@ -145,7 +148,7 @@ module _ (cs m : List ℕ) (a : Arena) (h : Header) (x : ℕ) (ks : List ℕ) (L
 
   fill-bytes : content (overwrite (h .tail) cs m) (x ∷ ks) (h .remaining - length cs) ≡ content m (x ∷ ks) (h .remaining) ++ cs
   fill-bytes =
-      let i : usedEnd a ≤ length m = standing-facts pageSize a (length m) (L .stands) .in-memory in
+      let i : usedEnd a ≤ length m = standing-facts a (length m) (L .stands) .in-memory in
       let e : h .tail ≡ x + (sizeOn ks - h .remaining) = omega (arith, L .tip) in
       let d : sizeOn ks - (h .remaining - length cs) ≡ (sizeOn ks - h .remaining) + length cs = omega (arith, L .tip) in
       rw (
@@ -176,6 +179,7 @@ module _ (cs m : List ℕ) (a : Arena) (h : Header) (x : ℕ) (ks : List ℕ) (L
     newer = [];
     grown = refl;
     grows = le-refl (usedEnd a);
+    size = refl;
     len = length-overwrite (h .tail) cs m;
   }
 
@@ -212,8 +216,9 @@ memory-on (x ∷ ks) v h m e = rw (ne-eqb (h .number) freshNumber (λ z. omega a
 record Spot (m : List ℕ) (a : Arena) (ks : List ℕ) (v : ℕ) (a′ : Arena) : Type 0 where
   above : usedEnd a ≤ v
   end : usedEnd a′ ≡ v + wideOn ks
-  on-page : placeOf pageSize v + wideOn ks ≤ pageSize
-  stands : standing pageSize a′ (length m) ≡ true
+  size : a′ .size ≡ a .size
+  on-page : placeOf (a′ .size) v + wideOn ks ≤ a′ .size
+  stands : standing a′ (length m) ≡ true
 
 take-lane : (m : List ℕ) (a : Arena) (h : Header) (ks : List ℕ) (v : ℕ) (a′ : Arena) → Loose m a h ks → h .remaining ≡ 0 → Spot m a ks v a′
     → Loose (memoryOn ks v h m) a′ (headerOn ks v h) (v ∷ ks)
@@ -227,8 +232,8 @@ take-lane m a h [] v a′ L z S = record {
   short = L .short;
 }
 take-lane m a h (x ∷ ks) v a′ L z S =
-    let i : usedEnd a ≤ length m = standing-facts pageSize a (length m) (L .stands) .in-memory in
-    let j : usedEnd a′ ≤ length m = standing-facts pageSize a′ (length m) (S .stands) .in-memory in
+    let i : usedEnd a ≤ length m = standing-facts a (length m) (L .stands) .in-memory in
+    let j : usedEnd a′ ≤ length m = standing-facts a′ (length m) (S .stands) .in-memory in
     let e : h .tail ≡ x + sizeOn ks = omega (arith, L .tip) in
     let c : Clear (h .tail) (length (leBytes linkSize v)) ks =
     clear-above x (h .tail) (length (leBytes linkSize v)) ks (omega arith) (L .tip .3 .0) in
@@ -239,7 +244,7 @@ take-lane m a h (x ∷ ks) v a′ L z S =
         (link-to-kept (h .tail) (leBytes linkSize v) m ks x c (L .links .0), links-kept (h .tail) (leBytes linkSize v) m ks c (L .links .1)),
       );
       below = (omega (arith, S .end), below-up (usedEnd a) (usedEnd a′) (x ∷ ks) (omega (arith, S .above, S .end)) (L .below));
-      paged = (S .on-page, L .paged);
+      paged = (S .on-page, subst (λ (s : ℕ). Paged s (x ∷ ks)) (sym (S .size)) (L .paged));
       tip = (L .tip .0, le-refl (sizeOn (x ∷ ks)), refl, (below-up (usedEnd a) v (x ∷ ks) (S .above) (L .below), L .tip .3));
       stands = rw length-overwrite (S .stands);
       short = rw length-overwrite (L .short);
@@ -262,6 +267,7 @@ take-step m a h [] v a′ L z S = record {
   newer = v ∷ [];
   grown = refl;
   grows = omega (arith, S .above, S .end);
+  size = S .size;
   len = refl;
 }
 take-step m a h (x ∷ ks) v a′ L z S =
@@ -298,22 +304,24 @@ take-step m a h (x ∷ ks) v a′ L z S =
       newer = v ∷ [];
       grown = refl;
       grows = omega (arith, S .above, S .end);
+      size = S .size;
       len = length-overwrite (h .tail) (leBytes linkSize v) m;
     }
 
-spot-at : (m : List ℕ) (a : Arena) (h : Header) (ks : List ℕ) (v : ℕ) (a′ : Arena) → Loose m a h ks → roomFor pageSize a (length m) (nextWide h) ≡ At v a′
+spot-at : (m : List ℕ) (a : Arena) (h : Header) (ks : List ℕ) (v : ℕ) (a′ : Arena) → Loose m a h ks → roomFor a (length m) (nextWide h) ≡ At v a′
     → Spot m a ks v a′
 spot-at m a h ks v a′ L e =
     let w : nextWide h ≡ wideOn ks = ap (λ (b : ℕ). blockSize b + linkSize) (let p : h .number + 1 ≡ length ks + 3 = omega (arith, L .number) in p) in
-    let R : Room pageSize a (length m) (wideOn ks) v a′ =
-    room-facts pageSize a (length m) (wideOn ks) v a′ (omega arith) (L .stands) (ap (roomFor pageSize a (length m)) (sym w) ∙ e) in
+    let f = ap (roomFor a (length m)) (sym w) ∙ e in
+    let R : Room a (length m) (wideOn ks) v a′ = room-facts a (length m) (wideOn ks) v a′ (omega arith) (L .stands) f in
     record {
       above = R .above;
       end = R .end;
+      size = room-size a (length m) (wideOn ks) v a′ f;
       on-page =
-          rw (R .page-on, place-of pageSize (a′ .page) (a′ .used - wideOn ks) (omega (arith, R .wide, R .after .in-page)))
+          rw (R .page-on, place-of (a′ .size) (a′ .page) (a′ .used - wideOn ks) (omega (arith, R .wide, R .after .in-page)))
           (omega (arith, R .wide, R .after .in-page));
-      stands = standing-made pageSize a′ (length m) (R .after);
+      stands = standing-made a′ (length m) (R .after);
     }
 
 -- ---- one byte
@@ -329,7 +337,7 @@ abbrev StepOf : Writing → List ℕ → List ℕ → Writing → List ℕ → T
 StepOf w ks bs w′ ks′ = Step (w .memory) (w .arena) (w .header) ks bs (w′ .memory) (w′ .arena) (w′ .header) ks′
 
 take-with : (w : Writing) (ks : List ℕ) (v : ℕ) (a′ : Arena) → LooseOf w ks → w .header .remaining ≡ 0
-    → roomFor pageSize (w .arena) (length (w .memory)) (nextWide (w .header)) ≡ At v a′
+    → roomFor (w .arena) (length (w .memory)) (nextWide (w .header)) ≡ At v a′
     → LooseOf (withBlock v a′ w) (v ∷ ks) × StepOf w ks [] (withBlock v a′ w) (v ∷ ks) × (0 < headerWith v (w .header) .remaining)
 take-with w ks v a′ L z e =
     let S = spot-at (w .memory) (w .arena) (w .header) ks v a′ L e in
@@ -356,7 +364,7 @@ ready-open : (w : Writing) (ks : List ℕ) → LooseOf w ks → (v : Writing) �
 unfolding ready
 ready-open w ks L v e = go (eqb (w .header .remaining) 0) refl e
   where
-    taken : (r : Allocated) → roomFor pageSize (w .arena) (length (w .memory)) (nextWide (w .header)) ≡ r → w .header .remaining ≡ 0
+    taken : (r : Allocated) → roomFor (w .arena) (length (w .memory)) (nextWide (w .header)) ≡ r → w .header .remaining ≡ 0
         → onRoom r w ≡ some v → Open w ks v
     taken (At at a′) p z e =
         let T = take-with w ks at a′ L z p in
@@ -376,7 +384,7 @@ ready-open w ks L v e = go (eqb (w .header .remaining) 0) refl e
     }
 
     go : (t : Bool) → eqb (w .header .remaining) 0 ≡ t → cond t (takeBlock w) (some w) ≡ some v → Open w ks v
-    go true p e = taken (roomFor pageSize (w .arena) (length (w .memory)) (nextWide (w .header))) refl (eqb-true (w .header .remaining) 0 p) e
+    go true p e = taken (roomFor (w .arena) (length (w .memory)) (nextWide (w .header))) refl (eqb-true (w .header .remaining) 0 p) e
     go false p e = subst (λ (v : Writing). Open w ks v) (same-some w v e) (stays ks L (eqb-false (w .header .remaining) 0 p))
 
 byte : (b : ℕ) (w : Writing) (ks : List ℕ) → LaneOf w ks → (v : Writing) → ready w ≡ some v
@@ -429,14 +437,14 @@ run (b ∷ bs) w ks L w′ e = go (λ v ks′ K f. run bs v ks′ K w′ f) (rea
 -- what is apart from the newest block is apart from what remains of it
 rest-apart : (m : List ℕ) (a : Arena) (h : Header) (ks : List ℕ) → Lane m a h ks → (q n : ℕ) → q + n ≤ usedEnd a → TipApart q n ks
     → Apart (h .tail) (h .remaining + linkSize) q n
-rest-apart m a h [] L q n u t = inr (omega (arith, L .tip, L .short, standing-facts pageSize a (length m) (L .stands) .in-memory))
+rest-apart m a h [] L q n u t = inr (omega (arith, L .tip, L .short, standing-facts a (length m) (L .stands) .in-memory))
 rest-apart m a h (x ∷ ks) L q n u t =
     apart-within x (wideOn ks) q n (h .tail) (h .remaining + linkSize) q n (omega (arith, L .tip)) (omega (arith, L .tip)) (le-refl q) (le-refl (q + n)) t
 
 -- ---- the theorems
 
 -- a list without blocks is a lane
-pub lane-fresh : (m : List ℕ) (a : Arena) → standing pageSize a (length m) ≡ true → length m ≤ arenaLimit → Lane m a fresh []
+pub lane-fresh : (m : List ℕ) (a : Arena) → standing a (length m) ≡ true → length m ≤ arenaLimit → Lane m a fresh []
 lane-fresh m a s h = record { number = refl; links = tt; below = tt; paged = tt; tip = (refl, refl, refl); begun = tt; stands = s; short = h }
 
 -- an append that fits leaves a lane, and what `After` says
@@ -462,6 +470,7 @@ lane-appended m a h ks bs w L e =
         newer = S .newer;
         grown = S .grown;
         grows = S .grows;
+        size = S .size;
         len = S .len;
       },
     )

@@ -1,6 +1,6 @@
 -- What an append to one lane keeps of another. Assumes nothing.
 use Prim.Native.Nat.{ℕ, _+_, _-_, _≤_}
-use mathlib.Core.Path.{_≡_, refl}
+use mathlib.Core.Path.{_≡_, refl, sym, subst}
 use mathlib.Core.List.{List, [], _∷_}
 use native.Mathlib.Nat.{le-refl}
 use native.Mathlib.Omega.{arith}
@@ -8,7 +8,7 @@ use Rattle.limits.specs.Limits.{linkSize}
 use Rattle.spans.specs.Span.{readSpan}
 use Rattle.memory_arena.specs.declared.Arena.{Arena}
 use Rattle.expull.specs.declared.Header.{Header}
-use Rattle.history_lanes.specs.Lane.{sizeOn, wideOn, fullContent, content, LinkTo, Links, Below, TipApart, TipClear, usedEnd, Lane, After}
+use Rattle.history_lanes.specs.Lane.{sizeOn, wideOn, fullContent, content, LinkTo, Links, Below, Paged, TipApart, TipClear, usedEnd, Lane, After}
 use Rattle.history_lanes.proofs.Blocks.{apart-within, below-up}
 
 -- a newest block that is clear of blocks is apart from the first of them, and clear of the others
@@ -53,7 +53,7 @@ module _ (m : List ℕ) (a : Arena) (h : Header) (ks bs m′ : List ℕ) (a′ :
       number = L .number;
       links = keep-links js (L .below) t (L .links);
       below = below-up (usedEnd a) (usedEnd a′) js (A .grows) (L .below);
-      paged = L .paged;
+      paged = subst (λ (s : ℕ). Paged s js) (sym (A .size)) (L .paged);
       tip = L .tip;
       begun = L .begun;
       stands = A .lane .stands;

@@ -8,7 +8,7 @@ use native.Mathlib.Omega.{arith}
 use lib.Dec.{eqb}
 use lib.ListN.{length}
 use borrow.Author.Tests.{eqb-true, eqb-false, ne-eqb}
-use Rattle.limits.specs.Limits.{pageSize, freshNumber, linkSize}
+use Rattle.limits.specs.Limits.{freshNumber, linkSize}
 use Rattle.numbers.specs.LittleEndian.{leBytes}
 use Rattle.numbers.proofs.Tests.{cond-false}
 use Rattle.spans.specs.Span.{overwrite}
@@ -41,16 +41,16 @@ turns-same (suc t) (suc t′) len a b n h k =
     go : (s : Bool) → eqb n 0 ≡ s
         → ((a′ : Arena) → n - blockSize (b + 1) ≤ t → n - blockSize (b + 1) ≤ t′
         → planned t len a′ (b + 1) (n - blockSize (b + 1)) ≡ planned t′ len a′ (b + 1) (n - blockSize (b + 1)))
-        → cond s (some a) (onRoomDry (roomFor pageSize a len (blockSize (b + 1) + linkSize)) (λ a′. planned t len a′ (b + 1) (n - blockSize (b + 1))))
-        ≡ cond s (some a) (onRoomDry (roomFor pageSize a len (blockSize (b + 1) + linkSize)) (λ a′. planned t′ len a′ (b + 1) (n - blockSize (b + 1))))
+        → cond s (some a) (onRoomDry (roomFor a len (blockSize (b + 1) + linkSize)) (λ a′. planned t len a′ (b + 1) (n - blockSize (b + 1))))
+        ≡ cond s (some a) (onRoomDry (roomFor a len (blockSize (b + 1) + linkSize)) (λ a′. planned t′ len a′ (b + 1) (n - blockSize (b + 1))))
     go true e f = refl
     go false e f =
-        dry-same (roomFor pageSize a len (blockSize (b + 1) + linkSize)) (λ a′. planned t len a′ (b + 1) (n - blockSize (b + 1)))
+        dry-same (roomFor a len (blockSize (b + 1) + linkSize)) (λ a′. planned t len a′ (b + 1) (n - blockSize (b + 1)))
         (λ a′. planned t′ len a′ (b + 1) (n - blockSize (b + 1))) (λ a′. f a′ (omega (arith, size-pos (b + 1))) (omega (arith, size-pos (b + 1))))
 
 -- a turn with a byte waiting
 turn-takes : (t len : ℕ) (a : Arena) (b n : ℕ) → planned (suc t) len a b (suc n)
-    ≡ onRoomDry (roomFor pageSize a len (blockSize (b + 1) + linkSize)) (λ a′. planned t len a′ (b + 1) (suc n - blockSize (b + 1)))
+    ≡ onRoomDry (roomFor a len (blockSize (b + 1) + linkSize)) (λ a′. planned t len a′ (b + 1) (suc n - blockSize (b + 1)))
 unfolding planned
 turn-takes t len a b n = cond-false _ _ _ (ne-eqb (suc n) 0 (λ z. omega arith))
 
@@ -99,7 +99,7 @@ plan-run (b ∷ bs) w = go (eqb (w .header .remaining) 0) refl (plan-run bs)
         let e : suc n - w .header .remaining ≡ suc n = omega arith in
         (λ i. planned (e i) (length (w .memory)) (w .arena) (w .header .number) (e i))
         ∙ turn-takes n (length (w .memory)) (w .arena) (w .header .number) n
-        ∙ taken on (roomFor pageSize (w .arena) (length (w .memory)) (nextWide (w .header)))
+        ∙ taken on (roomFor (w .arena) (length (w .memory)) (nextWide (w .header)))
     go false p on =
         let z : w .header .remaining ≡ 0 → ⊥ = eqb-false (w .header .remaining) 0 p in
         let e : suc n - w .header .remaining ≡ n - (w .header .remaining - 1) = omega arith in

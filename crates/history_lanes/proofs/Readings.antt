@@ -9,7 +9,7 @@ use lib.Dec.{leb, eqb}
 use lib.ListN.{length, length-append, take, drop}
 use lib.Seq.{take-all, take-append-seam, drop-append-seam}
 use borrow.Author.Tests.{le-leb, lt-leb, eq-eqb, ne-eqb, leb-true, leb-false, eqb-true, eqb-false}
-use Rattle.limits.specs.Limits.{pageSize, nullAddress, freshNumber, numberLimit, sizeTop, linkSize}
+use Rattle.limits.specs.Limits.{nullAddress, freshNumber, numberLimit, sizeTop, linkSize}
 use Rattle.numbers.proofs.Tests.{both-true, cond-true, cond-false}
 use Rattle.spans.specs.Span.{readSpan}
 use Rattle.spans.proofs.Laws.{length-span}
@@ -70,7 +70,7 @@ lane-header m a h [] L =
     }
 lane-header m a h (x ∷ ks) L =
     let e : h .number ≡ length ks + 3 = omega (arith, L .number) in
-    let i : usedEnd a ≤ length m = standing-facts pageSize a (length m) (L .stands) .in-memory in
+    let i : usedEnd a ≤ length m = standing-facts a (length m) (L .stands) .in-memory in
     let k : ℕ = length (x ∷ ks) in
     let f : k * (2 ^ sizeTop + linkSize) ≤ usedEnd a + 12 * (2 ^ sizeTop + linkSize) = stack-few (usedEnd a) (x ∷ ks) (L .below) (L .tip .3) in
     let o : h .head ≤ x = rw (L .tip .0) (oldest-low x ks (L .tip .3)) in
@@ -94,9 +94,9 @@ lane-header m a h (x ∷ ks) L =
 -- ---- good spans
 
 -- a span that ends in the used part, and on one page
-lies-good : (m : List ℕ) (a : Arena) (at n : ℕ) → standing pageSize a (length m) ≡ true → 0 < n → placeOf pageSize at + n ≤ pageSize → at + n ≤ usedEnd a
-    → goodSpan pageSize a at n ≡ true
-lies-good m a at n s z p e = good-below pageSize a at n z p e (standing-facts pageSize a (length m) s .in-page)
+lies-good : (m : List ℕ) (a : Arena) (at n : ℕ) → standing a (length m) ≡ true → 0 < n → placeOf (a .size) at + n ≤ a .size → at + n ≤ usedEnd a
+    → goodSpan a at n ≡ true
+lies-good m a at n s z p e = good-below a at n z p e (standing-facts a (length m) s .in-page)
 
 pub lane-tail : (m : List ℕ) (a : Arena) (h : Header) (ks : List ℕ) → Lane m a h ks → goodTail a h ≡ true
 unfolding goodTail
@@ -105,7 +105,7 @@ lane-tail m a h (x ∷ ks) L =
     let t : h .tail ≡ x + (sizeOn ks - h .remaining) = omega (arith, L .tip) in
     rw (ne-eqb (h .number) freshNumber (λ z. omega (arith, L .number)))
     (lies-good m a (h .tail) (h .remaining + linkSize) (L .stands) (omega arith)
-    (rw t (placed-within pageSize x (wideOn ks) (sizeOn ks - h .remaining) (h .remaining + linkSize) (omega arith) (omega (arith, L .tip .1)) (L .paged .0)))
+    (rw t (placed-within (a .size) x (wideOn ks) (sizeOn ks - h .remaining) (h .remaining + linkSize) (omega arith) (omega (arith, L .tip .1)) (L .paged .0)))
     (omega (arith, L .tip .2, L .below .0)))
 
 -- the links lead from the head to the newest block
@@ -115,21 +115,21 @@ place-newest m hd x [] l e = e
 place-newest m hd x (y ∷ ks) l e = rw (place-newest m hd y ks (l .1) e) (l .0)
 
 -- so each block on the way is a good span
-place-good : (m : List ℕ) (a : Arena) (hd x : ℕ) (ks : List ℕ) → standing pageSize a (length m) ≡ true → Links m (x ∷ ks) → hd ≡ oldest x ks
-    → Below (usedEnd a) (x ∷ ks) → Paged (x ∷ ks) → (i : ℕ) → i ≤ length ks → goodSpan pageSize a (blockPlace m hd i) (blockSize (i + 3) + linkSize) ≡ true
+place-good : (m : List ℕ) (a : Arena) (hd x : ℕ) (ks : List ℕ) → standing a (length m) ≡ true → Links m (x ∷ ks) → hd ≡ oldest x ks
+    → Below (usedEnd a) (x ∷ ks) → Paged (a .size) (x ∷ ks) → (i : ℕ) → i ≤ length ks → goodSpan a (blockPlace m hd i) (blockSize (i + 3) + linkSize) ≡ true
 place-good m a hd x [] s l e b p i h =
     let z : i ≡ length {A = ℕ} [] = omega arith in
     rw (z, place-newest m hd x [] l e) (lies-good m a x (wideOn []) s (omega arith) (p .0) (b .0))
 place-good m a hd x (y ∷ ks) s l e b p i h =
     go (eqb i (length (y ∷ ks))) refl (λ k. place-good m a hd y ks s (l .1) e (b .1) (p .1) i k)
   where
-    go : (t : Bool) → eqb i (length (y ∷ ks)) ≡ t → (i ≤ length ks → goodSpan pageSize a (blockPlace m hd i) (blockSize (i + 3) + linkSize) ≡ true)
-        → goodSpan pageSize a (blockPlace m hd i) (blockSize (i + 3) + linkSize) ≡ true
+    go : (t : Bool) → eqb i (length (y ∷ ks)) ≡ t → (i ≤ length ks → goodSpan a (blockPlace m hd i) (blockSize (i + 3) + linkSize) ≡ true)
+        → goodSpan a (blockPlace m hd i) (blockSize (i + 3) + linkSize) ≡ true
     go true q f =
         rw (eqb-true i (length (y ∷ ks)) q, place-newest m hd x (y ∷ ks) l e) (lies-good m a x (wideOn (y ∷ ks)) s (omega arith) (p .0) (b .0))
     go false q f = let z : i ≡ suc (length ks) → ⊥ = eqb-false i (length (y ∷ ks)) q in f (omega arith)
 
-good-up : (m : List ℕ) (a : Arena) (hd n : ℕ) → ((i : ℕ) → i < n → goodSpan pageSize a (blockPlace m hd i) (blockSize (i + 3) + linkSize) ≡ true)
+good-up : (m : List ℕ) (a : Arena) (hd n : ℕ) → ((i : ℕ) → i < n → goodSpan a (blockPlace m hd i) (blockSize (i + 3) + linkSize) ≡ true)
     → (k : ℕ) → k ≤ n → goodBlocks a m hd k ≡ true
 unfolding goodBlocks
 good-up m a hd n f zero h = refl
@@ -137,7 +137,7 @@ good-up m a hd n f (suc k) h = both-true _ _ (good-up m a hd n f k (omega arith)
 
 -- block i, with its link
 block-good : (m : List ℕ) (a : Arena) (h : Header) (ks : List ℕ) → Lane m a h ks → (i : ℕ) → i < blockCount h
-    → goodSpan pageSize a (blockPlace m (h .head) i) (blockSize (i + 3) + linkSize) ≡ true
+    → goodSpan a (blockPlace m (h .head) i) (blockSize (i + 3) + linkSize) ≡ true
 block-good m a h [] L i k = absurd (omega (arith, L .number))
 block-good m a h (x ∷ ks) L i k =
     place-good m a (h .head) x ks (L .stands) (L .links) (L .tip .0) (L .below) (L .paged) i (omega (arith, L .number))
@@ -180,7 +180,7 @@ pub content-length : (m : List ℕ) (a : Arena) (h : Header) (ks : List ℕ) →
 unfolding fullBytes
 content-length m a h [] L = omega (arith, L .tip)
 content-length m a h (x ∷ ks) L =
-    let i : usedEnd a ≤ length m = standing-facts pageSize a (length m) (L .stands) .in-memory in
+    let i : usedEnd a ≤ length m = standing-facts a (length m) (L .stands) .in-memory in
     omega (
       arith,
       length-append (fullContent m ks) (readSpan x (sizeOn ks - h .remaining) m),
@@ -223,7 +223,7 @@ pub lane-block : (m : List ℕ) (a : Arena) (h : Header) (ks : List ℕ) → Lan
 unfolding blockOf
 lane-block m a h ks L i k = record {
   told = rw (lt-leb (blockCount h) i k, lane-blocks m a h ks L (i + 1) (omega arith));
-  good = good-shorter pageSize a (blockPlace m (h .head) i) (blockSize (i + 3) + linkSize) (blockLength h i)
+  good = good-shorter a (blockPlace m (h .head) i) (blockSize (i + 3) + linkSize) (blockLength h i)
       (omega (arith, length-within h i k)) (block-good m a h ks L i k);
 }
 
@@ -259,7 +259,7 @@ module _ (m : List ℕ) (a : Arena) (h : Header) (ks : List ℕ) (L : Lane m a h
   piece-length : (i : ℕ) → i < blockCount h → length (piece i) ≡ blockLength h i
   piece-length i k =
       length-span (blockPlace m (h .head) i) (blockLength h i) m
-      (good-in pageSize a (blockPlace m (h .head) i) (blockLength h i) (length m) (L .stands)
+      (good-in a (blockPlace m (h .head) i) (blockLength h i) (length m) (L .stands)
       (lane-block m a h ks L i k .good))
 
   pieces-length : (k : ℕ) → k < blockCount h → length (pieces m h k) ≡ fullBytes k

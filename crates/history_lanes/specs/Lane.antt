@@ -7,7 +7,7 @@ use mathlib.Core.Bool.{true}
 use mathlib.Core.Option.{Option, none, some}
 use mathlib.Core.List.{List, [], _∷_, _++_}
 use lib.ListN.{length}
-use Rattle.limits.specs.Limits.{pageSize, arenaLimit, nullAddress, freshNumber, linkSize}
+use Rattle.limits.specs.Limits.{arenaLimit, nullAddress, freshNumber, linkSize}
 use Rattle.numbers.specs.LittleEndian.{leNumber}
 use Rattle.spans.specs.Span.{readSpan, Apart}
 use Rattle.memory_arena.specs.declared.Arena.{Arena}
@@ -62,10 +62,10 @@ abbrev pub Stack : List ℕ → Type 0
 Stack [] = Unit {0}
 Stack (x ∷ ks) = Below x ks × Stack ks
 
--- each block lies on one page
-abbrev pub Paged : List ℕ → Type 0
-Paged [] = Unit {0}
-Paged (x ∷ ks) = (placeOf pageSize x + wideOn ks ≤ pageSize) × Paged ks
+-- each block lies on one page, of s bytes
+abbrev pub Paged : ℕ → List ℕ → Type 0
+Paged s [] = Unit {0}
+Paged s (x ∷ ks) = (placeOf s x + wideOn ks ≤ s) × Paged s ks
 
 -- the first block, where x is the newest
 abbrev pub oldest : ℕ → List ℕ → ℕ
@@ -104,17 +104,17 @@ TipClear (x ∷ ks) js = Clear x (wideOn ks) js
 
 -- the end of the used part, as a place in the memory
 abbrev pub usedEnd : Arena → ℕ
-usedEnd a = addressOf pageSize (a .page) (a .used)
+usedEnd a = addressOf (a .size) (a .page) (a .used)
 
 -- RULES Y12.
 pub record Lane (m : List ℕ) (a : Arena) (h : Header) (ks : List ℕ) : Type 0 where
   pub number : h .number ≡ length ks + freshNumber
   pub links : Links m ks
   pub below : Below (usedEnd a) ks
-  pub paged : Paged ks
+  pub paged : Paged (a .size) ks
   pub tip : Tip h ks
   pub begun : Begun h ks
-  pub stands : standing pageSize a (length m) ≡ true
+  pub stands : standing a (length m) ≡ true
   pub short : length m ≤ arenaLimit
 
 -- ---- an append of bs
@@ -137,9 +137,11 @@ pub record After (m : List ℕ) (a : Arena) (h : Header) (ks bs m′ : List ℕ)
   pub tip : (q n : ℕ) → q + n ≤ usedEnd a → TipApart q n ks → TipApart q n ks′
   pub fwd : (js : List ℕ) → Below (usedEnd a) js → TipClear ks js → TipClear ks′ js
   pub back : (q n : ℕ) → q + n ≤ usedEnd a → Clear q n ks → Clear q n ks′
-  -- the lane's blocks before it are among those after it; the used part grows, and the memory keeps its length
+  -- the lane's blocks before it are among those after it; the used part grows; the pages keep their size, and the
+  -- memory its length
   pub older : (q n : ℕ) → Clear q n ks′ → Clear q n ks
   pub grows : usedEnd a ≤ usedEnd a′
+  pub size : a′ .size ≡ a .size
   pub len : length m′ ≡ length m
   -- and no block moves: those before it are the oldest of those after it
   pub newer : List ℕ
@@ -165,7 +167,7 @@ pub record HeaderFits (h : Header) : Type 0 where
 -- finding block i tells its place and how many bytes stand in it, and these are a good span
 pub record FoundBlock (m : List ℕ) (a : Arena) (h : Header) (i : ℕ) : Type 0 where
   pub told : blockOf a m h i ≡ BlockAt (blockPlace m (h .head) i) (blockLength h i)
-  pub good : goodSpan pageSize a (blockPlace m (h .head) i) (blockLength h i) ≡ true
+  pub good : goodSpan a (blockPlace m (h .head) i) (blockLength h i) ≡ true
 
 -- the spans that finding the first k blocks tells, read one after the other
 abbrev pub pieces : List ℕ → Header → ℕ → List ℕ

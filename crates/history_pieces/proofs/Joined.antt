@@ -9,11 +9,11 @@ use lib.Dec.{leb}
 use lib.ListN.{length, take, drop, length-append, take-append-drop}
 use lib.Seq.{length-take-le, take-nil, take-all, take-length, drop-append-seam}
 use borrow.Author.Tests.{leb-true, leb-false}
-use Rattle.limits.specs.Limits.{nameLimit}
 use Rattle.fastcmp.specs.Equal.{equalBytes}
 use Rattle.spans.specs.Span.{readSpan, overwrite}
 use Rattle.spans.proofs.Laws.{read-written}
 use Rattle.store.specs.declared.Lookup.the-variants.{Missing, Failed}
+use Rattle.store.specs.Name.{nameLimitOf}
 use Rattle.store.specs.Look.{lookupOf}
 use Rattle.lane_pieces.specs.declared.Pieced.the-variants.{Given, Refused}
 use Rattle.lane_pieces.specs.Piece.{Out, out, pieceOf}
@@ -101,15 +101,16 @@ module _ (w : World) (calls : List Call) (D : Demand3 w calls) (name : List ℕ)
 
   -- a name that accepted appends brought is within the limit, and reads back
   pub stands : (bs : List ℕ) → joined name calls w ≡ some bs → ReadsBack now name bs
-  stands bs e = go (leb (length name) nameLimit) refl
+  stands bs e = go (leb (length name) (nameLimitOf (w .state))) refl
     where
-      go : (b : Bool) → leb (length name) nameLimit ≡ b → ReadsBack now name bs
+      go : (b : Bool) → leb (length name) (nameLimitOf (w .state)) ≡ b → ReadsBack now name bs
       go true f = subst (ReadsAs now name) e (D .reads-back name (leb-true _ _ f))
       go false f =
           let p = D .long-never name (leb-false _ _ f) .0 in
           let z : _≡_ {A = ℕ} 0 1 = cc in absurd (omega arith)
 
-  pub missing : joined name calls w ≡ none → length name ≤ nameLimit → lookupOf (now .state) (now .memory) name ≡ Missing
+  pub missing : joined name calls w ≡ none → length name ≤ nameLimitOf (w .state)
+      → lookupOf (now .state) (now .memory) name ≡ Missing
   missing e s = go (joined name calls w) e (D .reads-back name s)
     where
       go : (o : Option (List ℕ)) → o ≡ none → ReadsAs now name o → lookupOf (now .state) (now .memory) name ≡ Missing
@@ -150,9 +151,9 @@ module _ (w : World) (calls : List Call) (D : Demand3 w calls) (name : List ℕ)
       ∙ take-min (length (x ∷ o)) rest
 
   next-absent : (got output : List ℕ) → joined name calls w ≡ none → nextPiece now name got output ≡ []
-  next-absent got output e = go (leb (length name) nameLimit) refl
+  next-absent got output e = go (leb (length name) (nameLimitOf (w .state))) refl
     where
-      go : (b : Bool) → leb (length name) nameLimit ≡ b → nextPiece now name got output ≡ []
+      go : (b : Bool) → leb (length name) (nameLimitOf (w .state)) ≡ b → nextPiece now name got output ≡ []
       go true f = ap givenOf (piece-back (length got) output .none-there e (leb-true _ _ f))
       go false f = ap givenOf (piece-back (length got) output .long-name (leb-false _ _ f))
 
@@ -196,10 +197,10 @@ front-log name got (e ∷ log) stood F = front-log name got log _ (go (equalByte
 
 -- ---- all of them
 
-module _ (capacity seed : ℕ) (table keys lists : List ℕ) (w : World) (B : Born capacity seed table keys lists w)
-    (name : List ℕ) where
+module _ (capacity seed size : ℕ) (table keys lists : List ℕ) (w : World)
+    (B : Born capacity seed size table keys lists w) (name : List ℕ) where
   demand : (calls : List Call) → Demand3 w calls
-  demand = demand-3 capacity seed table keys lists w B
+  demand = demand-3 capacity seed size table keys lists w B
 
   -- calls more
   pub front-calls : (done more : List Call) (got : List ℕ) → Front got (laneOf (joined name done w))

@@ -5,8 +5,8 @@ use mathlib.Core.Path.{_≡_}
 use mathlib.Core.Option.{none, some}
 use mathlib.Core.List.{List, [], _++_}
 use lib.ListN.{length, take}
-use Rattle.limits.specs.Limits.{nameLimit}
 use Rattle.spans.specs.Span.{readSpan, overwrite}
+use Rattle.store.specs.Name.{nameLimitOf}
 use Rattle.lane_pieces.specs.declared.Pieced.the-variants.{Absent, Given, Refused}
 use Rattle.lane_pieces.specs.Piece.{out, pieceOf}
 use Rattle.history.specs.History.{World, Call, play, joined}
@@ -26,9 +26,9 @@ pub record PieceBack (w : World) (calls : List Call) (name : List ℕ) (given : 
   pub no-place : (bs : List ℕ) → joined name calls w ≡ some bs → given ≤ length bs → length output ≡ 0
       → pieceOf (play calls w .state) (play calls w .memory) name given output ≡ out (Refused 8 (length bs)) output
   -- a name that no accepted append brought; one over the limit
-  pub none-there : joined name calls w ≡ none → length name ≤ nameLimit
+  pub none-there : joined name calls w ≡ none → length name ≤ nameLimitOf (w .state)
       → pieceOf (play calls w .state) (play calls w .memory) name given output ≡ out Absent output
-  pub long-name : nameLimit < length name
+  pub long-name : nameLimitOf (w .state) < length name
       → pieceOf (play calls w .state) (play calls w .memory) name given output ≡ out (Refused 3 0) output
 
 -- RULES AD5. Pieces of any sizes, with any calls in between: joined they are the front of the lane's accepted appends,

@@ -9,7 +9,6 @@ use lib.Dec.{leb, ltb, eqb}
 use lib.ListN.{length, length-append}
 use lib.Seq.{length-take-le}
 use borrow.Author.Tests.{leb-true, leb-false, ltb-true, ltb-false, eqb-true, eqb-false}
-use Rattle.limits.specs.Limits.{nameLimit}
 use Rattle.numbers.proofs.Tests.{both}
 use Rattle.spans.specs.Span.{readSpan, overwrite}
 use Rattle.spans.proofs.Laws.{length-overwrite}
@@ -22,6 +21,7 @@ use Rattle.store.specs.declared.Lookup.{Lookup}
 use Rattle.store.specs.declared.Lookup.the-variants.{At, Missing, Failed}
 use Rattle.store.specs.declared.Answer.the-variants.{Found}
 use Rattle.store.specs.declared.Outcome.the-variants.{Block}
+use Rattle.store.specs.Name.{nameLimitOf}
 use Rattle.store.specs.Look.{lookupOf, headerOf, headerSound, blocksSound, onBlock, findBlockOf}
 use Rattle.store.proofs.Found.{Headed, head-found, head-sound, block-at, block-found}
 use Rattle.lane_pieces.specs.declared.Pieced.{Pieced}
@@ -151,10 +151,10 @@ stands-on j (e ∷ log) bs = go (equalBytes j (e .name)) (stands-on j log)
     go true f = f (bs ++ e .bytes)
     go false f = f bs
 
-module _ (capacity seed : ℕ) (table keys lists : List ℕ) (w : World) (B : Born capacity seed table keys lists w)
-    (name : List ℕ) where
+module _ (capacity seed size : ℕ) (table keys lists : List ℕ) (w : World)
+    (B : Born capacity seed size table keys lists w) (name : List ℕ) where
   demand : (calls : List Call) → Demand3 w calls
-  demand = demand-3 capacity seed table keys lists w B
+  demand = demand-3 capacity seed size table keys lists w B
 
   -- what holds after the calls done so far, of the place and of the bytes that were given
   record Inv (done : List Call) (p : Place) (got : List ℕ) : Type 0 where
@@ -183,7 +183,7 @@ module _ (capacity seed : ℕ) (table keys lists : List ℕ) (w : World) (B : Bo
       more = c ∷ []
 
       F : Front got (laneOf (joined name (done ++ more) w))
-      F = front-calls capacity seed table keys lists w B name done more got (I .front)
+      F = front-calls capacity seed size table keys lists w B name done more got (I .front)
 
       go : (o : Option (List ℕ)) → joined name done w ≡ o → Inv (done ++ more) p got
       go none e =
@@ -220,9 +220,9 @@ module _ (capacity seed : ℕ) (table keys lists : List ℕ) (w : World) (B : Bo
   -- a lookup that found no record: nothing is given, and the place stays
   module _ (done : List Call) (p : Place) (output : List ℕ) (e : joined name done w ≡ none) where
     unfound : (l : Lookup) → lookupOf (play done w .state) (play done w .memory) name ≡ l → (at : ℕ) → l ≡ At at → ⊥
-    unfound l f at g = go (leb (length name) nameLimit) refl
+    unfound l f at g = go (leb (length name) (nameLimitOf (w .state))) refl
       where
-        go : (b : Bool) → leb (length name) nameLimit ≡ b → ⊥
+        go : (b : Bool) → leb (length name) (nameLimitOf (w .state)) ≡ b → ⊥
         go true h =
             let m = missing w done (demand done) name e (leb-true _ _ h) in
             let z : _≡_ {A = ℕ} 0 1 = cc in omega arith
@@ -292,7 +292,7 @@ module _ (capacity seed : ℕ) (table keys lists : List ℕ) (w : World) (B : Bo
       p′ = pieceOnOf (v .state) (v .memory) name p output .place
 
       F : Front (got ++ next) (laneOf (joined name done w))
-      F = front-piece capacity seed table keys lists w B name done got output (I .front)
+      F = front-piece capacity seed size table keys lists w B name done got output (I .front)
 
       go : (o : Option (List ℕ)) → joined name done w ≡ o → Inv done p′ (got ++ next)
       go none e =

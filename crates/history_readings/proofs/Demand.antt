@@ -10,9 +10,9 @@ use lib.Dec.{leb, ltb, eqb}
 use lib.ListN.{length}
 use lib.IntN.{ℤ, pos}
 use borrow.Author.Tests.{le-leb, lt-leb, ltb-true, ltb-false}
-use Rattle.limits.specs.Limits.{nameLimit}
 use Rattle.limits.specs.Refusals.{unvinting, refusalNumbers, isAmong, numberIn}
 use Rattle.expull.specs.Blocks.{laneBytes}
+use Rattle.store.specs.Name.{nameLimitOf}
 use Rattle.store.specs.Look.{headerOf, blocksSound}
 use Rattle.reading_run.specs.Readings.{readingBytes, readingsBytes, AllSigned, Split, split, vintsOf, readingsIn}
 use Rattle.reading_run.proofs.Back.{storedFrom, written-splits, stored-readings, stored-count}
@@ -115,17 +115,17 @@ module _ (w : World) (steps : List Step) (D : Demand3 w (map callOf steps)) wher
       → joined name (map callOf steps) w ≡ comeTo (readingsAmong (acceptedFor name steps w))
   joined-is name h = steps-joined name steps w none ∙ handed-joined (acceptedFor name steps w) h
 
-  long : (name : List ℕ) (output : List ℤ) → nameLimit < length name
+  long : (name : List ℕ) (output : List ℤ) → nameLimitOf (w .state) < length name
       → recalledIn now name output ≡ out (Refused 3 0) output
   long name output l = readings-failed (now .state) (now .memory) name output 3 (D .long-never name l .1)
 
-  any : (name : List ℕ) (output : List ℤ) → length name ≤ nameLimit
+  any : (name : List ℕ) (output : List ℤ) → length name ≤ nameLimitOf (w .state)
       → recalledIn now name output ≡ recalledBy (joined name (map callOf steps) w) output
   any name output l = reads-by now name (joined name (map callOf steps) w) (D .reads-back name l) output
 
   never : (n : ℕ) → isAmong n possible ≡ false → 3 ≢ n → (name : List ℕ) (output : List ℤ)
       → numberIn (saidRecalled (recalledIn now name output .answer)) ≢ n
-  never n f t name output e = go (ltb nameLimit (length name)) refl
+  never n f t name output e = go (ltb (nameLimitOf (w .state)) (length name)) refl
     where
       number : Out → ℕ
       number r = numberIn (saidRecalled (r .answer))
@@ -133,11 +133,11 @@ module _ (w : World) (steps : List Step) (D : Demand3 w (map callOf steps)) wher
       stood : Option (List ℕ)
       stood = joined name (map callOf steps) w
 
-      go : (b : Bool) → ltb nameLimit (length name) ≡ b → ⊥
-      go true l = t (sym (ap number (long name output (ltb-true nameLimit (length name) l))) ∙ e)
+      go : (b : Bool) → ltb (nameLimitOf (w .state)) (length name) ≡ b → ⊥
+      go true l = t (sym (ap number (long name output (ltb-true (nameLimitOf (w .state)) (length name) l))) ∙ e)
       go false l =
           let i : number (recalledBy stood output) ≡ n =
-          sym (ap number (any name output (ltb-false nameLimit (length name) l))) ∙ e in
+          sym (ap number (any name output (ltb-false (nameLimitOf (w .state)) (length name) l))) ∙ e in
           false≢true (sym f ∙ subst (λ (x : ℕ). isAmong x possible ≡ true) i (number-known stood output))
 
   pub demand-of : ReadingsDemand w steps
@@ -155,7 +155,7 @@ module _ (w : World) (steps : List Step) (D : Demand3 w (map callOf steps)) wher
   }
 
 -- FOUR: after any calls and readings, a lane of readings reads back as its accepted ones, in order
-pub readings-demand : (capacity seed : ℕ) (table keys lists : List ℕ) (w : World)
-    → Born capacity seed table keys lists w → (steps : List Step) → ReadingsDemand w steps
-readings-demand capacity seed table keys lists w B steps =
-    demand-of w steps (demand-3 capacity seed table keys lists w B (map callOf steps))
+pub readings-demand : (capacity seed size : ℕ) (table keys lists : List ℕ) (w : World)
+    → Born capacity seed size table keys lists w → (steps : List Step) → ReadingsDemand w steps
+readings-demand capacity seed size table keys lists w B steps =
+    demand-of w steps (demand-3 capacity seed size table keys lists w B (map callOf steps))

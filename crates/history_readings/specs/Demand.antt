@@ -8,8 +8,8 @@ use mathlib.Core.Option.{Option, none, some}
 use mathlib.Core.List.{List, [], _∷_, map}
 use lib.ListN.{length}
 use lib.IntN.{ℤ, pos}
-use Rattle.limits.specs.Limits.{nameLimit}
 use Rattle.limits.specs.Refusals.{numberIn}
+use Rattle.store.specs.Name.{nameLimitOf}
 use Rattle.reading_run.specs.Readings.{readingBytes, vintsOf}
 use Rattle.readings.specs.declared.Recalled.the-variants.{Readings, Absent, Refused}
 use Rattle.readings.specs.Readings.{Out, out, atFront, onSplit, readingsOf, appendReadingOf}
@@ -42,12 +42,13 @@ recalledBy (some bs) output = onSplit (vintsOf bs) output
 -- RULES AB9, AB10.
 pub record ReadingsDemand (w : World) (steps : List Step) : Type 0 where
   -- "If that is true each time and nothing else is appended there, reading back gives the accepted readings in order."
-  pub readings-back : (name : List ℕ) → length name ≤ nameLimit → HandedOn (pos 0) (acceptedFor name steps w)
+  pub readings-back : (name : List ℕ) → length name ≤ nameLimitOf (w .state)
+      → HandedOn (pos 0) (acceptedFor name steps w)
       → ReadsReadings (play (map callOf steps) w) name (readingsAmong (acceptedFor name steps w))
   -- of any lane, readings or not: the answer is worked out from its accepted appends joined, and 2 and 4 never come
-  pub any-lane : (name : List ℕ) (output : List ℤ) → length name ≤ nameLimit
+  pub any-lane : (name : List ℕ) (output : List ℤ) → length name ≤ nameLimitOf (w .state)
       → recalledIn (play (map callOf steps) w) name output ≡ recalledBy (joined name (map callOf steps) w) output
-  pub long-name : (name : List ℕ) (output : List ℤ) → nameLimit < length name
+  pub long-name : (name : List ℕ) (output : List ℤ) → nameLimitOf (w .state) < length name
       → recalledIn (play (map callOf steps) w) name output ≡ out (Refused 3 0) output
   pub never-2-or-4 : (name : List ℕ) (output : List ℤ)
       → (numberIn (saidRecalled (recalledIn (play (map callOf steps) w) name output .answer)) ≢ 2)

@@ -8,7 +8,7 @@ use native.Mathlib.Nat.{add-zero}
 use native.Mathlib.Numerals.{add-one}
 use native.Mathlib.Omega.{arith}
 use lib.ListN.{length, take, drop}
-use Rattle.limits.specs.Limits.{pageSize, linkSize}
+use Rattle.limits.specs.Limits.{linkSize}
 use Rattle.numbers.specs.LittleEndian.{leNumber}
 use Rattle.numbers.proofs.Tests.{both, left-false}
 use Rattle.spans.specs.Span.{readSpan, overwrite}
@@ -29,9 +29,9 @@ pub good-lie : (a : Arena) (m : List ℕ) (i place k : ℕ) → sensible a (leng
     → LieOn m i place k
 good-lie a m i place zero s e = tt
 good-lie a m i place (suc k) s e =
-    let p = both (goodSpan pageSize a place (blockSize (i + 3) + linkSize)) (goodOn a m (suc i) (nextPlace m i place) k)
+    let p = both (goodSpan a place (blockSize (i + 3) + linkSize)) (goodOn a m (suc i) (nextPlace m i place) k)
     (sym (good-more a m i place k) ∙ e) in (
-      good-in pageSize a place (blockSize (i + 3) + linkSize) (length m) (sensible-facts a (length m) s .stands) (p .0),
+      good-in a place (blockSize (i + 3) + linkSize) (length m) (sensible-facts a (length m) s .stands) (p .0),
       good-lie a m (suc i) (nextPlace m i place) k s (p .1),
     )
 
@@ -41,7 +41,7 @@ pub record Testing (a : Arena) (m : List ℕ) (first end place b i : ℕ) : Type
 
 module _ {a : Arena} {m : List ℕ} {first end place b i : ℕ} (w : Testing a m first end place b i) where
   abbrev test : ℕ → Bool
-  test size = goodSpan pageSize a b (size + linkSize)
+  test size = goodSpan a b (size + linkSize)
 
   turned : i < end → goodOn a m first place (end - first)
       ≡ (test (blockSize (i + 3)) && goodOn a m (suc i) (nextPlace m i b) (end - suc i))
@@ -71,7 +71,7 @@ module _ {a : Arena} {m : List ℕ} {first end place b i : ℕ} (w : Testing a m
   pub testing-in : (size : ℕ) {t : Bool} → sensible a (length m) ≡ true → t ≡ test size → t ≡ true
       → b + (size + linkSize) ≤ length m
   testing-in size s f g =
-      good-in pageSize a b (size + linkSize) (length m) (sensible-facts a (length m) s .stands) (sym f ∙ g)
+      good-in a b (size + linkSize) (length m) (sensible-facts a (length m) s .stands) (sym f ∙ g)
 
 -- ---- blocks copied
 

@@ -10,7 +10,7 @@ use lib.Dec.{eqb, leb}
 use lib.ListN.{length, take, drop}
 use lib.Seq.{take-append-le, drop-append-add, take-take}
 use borrow.Author.Tests.{leb-true, leb-false, eqb-true, eqb-false}
-use Rattle.limits.specs.Limits.{pageSize, freshNumber, linkSize}
+use Rattle.limits.specs.Limits.{freshNumber, linkSize}
 use Rattle.spans.specs.Span.{readSpan}
 use Rattle.spans.proofs.Laws.{span-within}
 use Rattle.memory_arena.specs.declared.Arena.{Arena}
@@ -27,7 +27,7 @@ use Rattle.lane_pieces.specs.Onward.{nextPlace, goodOn, bytesOn, heldOn}
 
 module _ (a : Arena) (m : List ℕ) (i place k : ℕ) where
   pub good-more : goodOn a m i place (suc k)
-      ≡ (goodSpan pageSize a place (blockSize (i + 3) + linkSize) && goodOn a m (suc i) (nextPlace m i place) k)
+      ≡ (goodSpan a place (blockSize (i + 3) + linkSize) && goodOn a m (suc i) (nextPlace m i place) k)
   unfolding goodOn
   good-more = refl
 

@@ -25,7 +25,8 @@ stateOf (Declined st n) = st
 
 abbrev pub appended : Outcome
 appended =
-    appendOf (freshState 0 18 64 64 1) (lent (createOf 1 0 (sevens 18) 64 64 .table) (sevens 64) (sevens 64)) (65 ∷ [])
+    appendOf (freshState 0 65536 18 64 64 1)
+    (lent (createOf 1 0 65536 (sevens 18) 64 64 .table) (sevens 64) (sevens 64)) (65 ∷ [])
     (1 ∷ 2 ∷ 3 ∷ 4 ∷ 5 ∷ 6 ∷ 7 ∷ 8 ∷ 9 ∷ [])
 
 abbrev pub nine : State

@@ -5,7 +5,7 @@ use mathlib.Core.Path.{_≡_}
 use mathlib.Core.Bool.{Bool, true, cond, _&&_}
 use mathlib.Core.List.{List, [], _++_}
 use lib.ListN.{length}
-use Rattle.limits.specs.Limits.{pageSize, numberLimit, linkSize}
+use Rattle.limits.specs.Limits.{numberLimit, linkSize}
 use Rattle.numbers.specs.LittleEndian.{leNumber}
 use Rattle.spans.specs.Span.{readSpan, overwrite}
 use Rattle.memory_arena.specs.declared.Arena.{Arena}
@@ -28,7 +28,7 @@ unfoldable pub goodOn : Arena → List ℕ → ℕ → ℕ → ℕ → Bool
 unfolding goodSpan nextPlace
 goodOn a m i place zero = true
 goodOn a m i place (suc k) =
-    goodSpan pageSize a place (blockSize (i + 3) + linkSize) && goodOn a m (suc i) (nextPlace m i place) k
+    goodSpan a place (blockSize (i + 3) + linkSize) && goodOn a m (suc i) (nextPlace m i place) k
 
 -- RULES AD6. Their bytes, full.
 unfoldable pub bytesOn : List ℕ → ℕ → ℕ → ℕ → List ℕ

@@ -94,10 +94,11 @@ pub data Asked : Type 0 where
   flatReading : Asked
   joining : Asked
 
--- RULES X3. The numbers of each call, in the order in which they are given.
+-- RULES X3. The numbers of each call, in the order in which they are given. (10 stands before 9 for a page size that
+-- isn't taken, and is given after 9 for all else.)
 abbrev pub refusalNumbers : Asked → List ℕ
 refusalNumbers copying = 9 ∷ []
-refusalNumbers allocating = 9 ∷ 10 ∷ []
+refusalNumbers allocating = 10 ∷ 9 ∷ []
 refusalNumbers touching = 10 ∷ []
 refusalNumbers unvinting = 11 ∷ 12 ∷ []
 refusalNumbers creating = 1 ∷ []

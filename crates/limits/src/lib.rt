@@ -1,23 +1,25 @@
-// The numbers of document 01, each under a name, in one place: what bounds the store, and what an answer says.
+// The numbers of documents 01 and 02, each under a name, in one place: what bounds the store, and what an answer says.
 //
 // It promises nothing by itself: it has no function. `specs/Limits.antt` has the same numbers for the definitions, with the laws
 // that tie them together, and every contract above is stated over those; a constant that disagreed would fail the first proof that
 // meets it. `specs/Refusals.antt` says what an answer is in the paper's terms. It uses nothing.
 
-// A page's bytes, and the shift and the mask that split an address.
+// A page's bytes: powers of two from the smallest to the crate's, which is the largest.
+pub const SMALLEST_PAGE: usize = 65536;
+
 pub const PAGE_SIZE: usize = 1048576;
 
-pub const PAGE_SHIFT: u32 = 20;
+// One more than the last address: an arena's bytes and one page together are at most this.
+pub const ADDRESSES: usize = 4294967296;
 
-pub const PAGE_MASK: u32 = 1048575;
-
-// Bytes of the longest arena.
-pub const ARENA_LIMIT: usize = 4293918720;
+// Pages of the longest arena of all, which has the smallest pages.
+pub const PAGE_LIMIT: usize = 65535;
 
 // Words of the longest table, two a bucket.
 pub const WORD_LIMIT: usize = 8388608;
 
-// Bytes of the longest name, and what a record has besides its name: two length bytes and sixteen of value.
+// Bytes of the longest name, whatever the page, and what a record has besides its name: two length bytes and sixteen of
+// value.
 pub const NAME_LIMIT: usize = 65535;
 
 pub const RECORD_EXTRA: usize = 18;

@@ -1,5 +1,5 @@
 -- RULES F1, F2. Document 01, "Pages and addresses": address = page number × page size + place on the page. For pages
--- of s bytes.
+-- of s bytes, whatever s is (document 02, Nine).
 use Prim.Native.Nat.{ℕ, _+_, _*_, _/_, _%_}
 
 -- RULES F1, F3. The address of a place on a page.

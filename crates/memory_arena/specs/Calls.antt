@@ -1,13 +1,14 @@
 -- RULES G. The calls on a bare arena: what each answers and leaves, for any state and any lent length. Refusals by
--- document 01's numbers, the lowest first: 9 an allocation of 0 or over a page's bytes; 10 a span that isn't good, a
--- lent length that creation refuses, or a state whose page or used count exceeds it.
+-- document 01's numbers: 9 an allocation of 0 or over a page's bytes; 10 a span that isn't good, a lent length that
+-- creation refuses, or a state whose page or used count exceeds it. The lowest comes first, but for one: "a senseless
+-- size in a bare arena state is 10, whatever is asked" (document 02, Nine).
 use Prim.Native.Nat.{ℕ}
 use mathlib.Core.Path.{_≡_, refl}
 use mathlib.Core.Bool.{Bool, cond, _&&_, _||_}
 use mathlib.Core.List.{List, [], _∷_}
 use lib.Dec.{ltb, eqb}
 use lib.ListN.{length, replicate}
-use Rattle.limits.specs.Limits.{pageSize, arenaLimit}
+use Rattle.limits.specs.Limits.{pageTaken, arenaLimitFor}
 use Rattle.limits.specs.Refusals.{Said, answered, refused, done, anAddress, noRoom, one-outcome}
 use Rattle.spans.specs.Span.{readSpan, overwrite}
 use Rattle.memory_arena.specs.declared.Arena.{Arena}
@@ -17,16 +18,17 @@ use Rattle.memory_arena.specs.declared.Touched.{Touched}
 use Rattle.memory_arena.specs.declared.Touched.the-variants.{Done, Declined}
 use Rattle.memory_arena.specs.Pages.{lendable, standing, goodSpan, roomFor}
 
--- RULES G1, B4, B6. The lent length is one that creation takes, and the state one of an arena of that length.
+-- RULES G1, B4, B6. A page's bytes and the lent length are such as creation takes, and the state is one of an arena of
+-- that length.
 unfoldable pub sensible : Arena → ℕ → Bool
 unfolding standing
-sensible a len = lendable arenaLimit len && standing pageSize a len
+sensible a len = pageTaken (a .size) && (lendable (arenaLimitFor (a .size)) len && standing a len)
 
 -- ---- this paper's number and values of each answer
 
 -- RULES X7.
 abbrev pub saidAllocated : Allocated → Said
-saidAllocated (At address a) = answered anAddress (address ∷ a .page ∷ a .used ∷ [])
+saidAllocated (At address a) = answered anAddress (address ∷ a .page ∷ a .used ∷ a .size ∷ [])
 saidAllocated NoRoom = answered noRoom []
 saidAllocated (Refused n) = refused n []
 
@@ -37,17 +39,19 @@ saidTouched (Declined n) = refused n []
 
 -- ---- the calls
 
--- RULES G2. An address and the state after it, no room, 9 or 10.
+-- RULES G2. An address and the state after it, no room, 9 or 10; a size that isn't taken is 10 before all else.
 unfoldable pub allocateOf : Arena → ℕ → ℕ → Allocated
 unfolding sensible roomFor
 allocateOf a len n =
-    cond (eqb n 0 || ltb pageSize n) (Refused 9)
-    (cond (sensible a len) (roomFor pageSize a len n) (Refused 10))
+    cond (pageTaken (a .size))
+    (cond (eqb n 0 || ltb (a .size) n) (Refused 9)
+    (cond (sensible a len) (roomFor a len n) (Refused 10)))
+    (Refused 10)
 
 -- RULES G3. The span may be touched.
 unfoldable pub reachable : Arena → ℕ → ℕ → ℕ → Bool
 unfolding sensible goodSpan
-reachable a len at n = sensible a len && goodSpan pageSize a at n
+reachable a len at n = sensible a len && goodSpan a at n
 
 -- RULES G4, G5. The answer, and the lent memory that the call may write, as it leaves it.
 pub record Out : Type 0 where
@@ -75,25 +79,29 @@ unfoldable pub sliceOf : Arena → List ℕ → ℕ → ℕ → List ℕ
 unfolding reachable readSpan
 sliceOf a pages at n = cond (reachable a (length pages) at n) (readSpan at n pages) []
 
--- ---- a row a case: what each call says then, of an arena of 100 bytes with so many used
+-- ---- a row a case: what each call says then, of an arena of 100 bytes with so many used, its pages of so many bytes
 
-abbrev used : ℕ → Arena
-used n = record { page = 0; used = n }
+abbrev used : ℕ → ℕ → Arena
+used n s = record { page = 0; used = n; size = s }
 
 abbrev hundred : List ℕ
 hundred = replicate 100 7
 
 -- RULES X7.
-pub said-cases : (saidAllocated (allocateOf (used 88) 100 12) ≡ answered anAddress (88 ∷ 0 ∷ 100 ∷ []))
-    × (saidAllocated (allocateOf (used 89) 100 12) ≡ answered noRoom [])
-    × (saidAllocated (allocateOf (used 101) 100 0) ≡ refused 9 [])
-    × (saidAllocated (allocateOf (used 101) 100 12) ≡ refused 10 [])
-    × (saidTouched (readOf (used 88) hundred 86 (0 ∷ 0 ∷ []) .answer) ≡ answered done [])
-    × (saidTouched (readOf (used 88) hundred 87 (0 ∷ 0 ∷ []) .answer) ≡ refused 10 [])
-    × (saidTouched (writeOf (used 88) hundred 86 (0 ∷ 0 ∷ []) .answer) ≡ answered done [])
-    × (saidTouched (writeOf (used 88) hundred 87 (0 ∷ 0 ∷ []) .answer) ≡ refused 10 [])
+pub said-cases : (saidAllocated (allocateOf (used 88 65536) 100 12) ≡ answered anAddress (88 ∷ 0 ∷ 100 ∷ 65536 ∷ []))
+    × (saidAllocated (allocateOf (used 89 65536) 100 12) ≡ answered noRoom [])
+    × (saidAllocated (allocateOf (used 101 65536) 100 0) ≡ refused 9 [])
+    × (saidAllocated (allocateOf (used 101 65536) 100 12) ≡ refused 10 [])
+    × (saidAllocated (allocateOf (used 88 65536) 100 65537) ≡ refused 9 [])
+    × (saidAllocated (allocateOf (used 88 131072) 100 65537) ≡ answered noRoom [])
+    × (saidAllocated (allocateOf (used 88 65537) 100 0) ≡ refused 10 [])
+    × (saidTouched (readOf (used 88 65536) hundred 86 (0 ∷ 0 ∷ []) .answer) ≡ answered done [])
+    × (saidTouched (readOf (used 88 65536) hundred 87 (0 ∷ 0 ∷ []) .answer) ≡ refused 10 [])
+    × (saidTouched (readOf (used 88 65537) hundred 86 (0 ∷ 0 ∷ []) .answer) ≡ refused 10 [])
+    × (saidTouched (writeOf (used 88 65536) hundred 86 (0 ∷ 0 ∷ []) .answer) ≡ answered done [])
+    × (saidTouched (writeOf (used 88 65536) hundred 87 (0 ∷ 0 ∷ []) .answer) ≡ refused 10 [])
 unfolding allocateOf readOf writeOf
-said-cases = (refl, refl, refl, refl, refl, refl, refl, refl)
+said-cases = (refl, refl, refl, refl, refl, refl, refl, refl, refl, refl, refl, refl)
 
 -- ---- the promises permit one outcome each
 

@@ -1,23 +1,25 @@
 // A memory arena over lent pages: addresses, allocation, and bare reads and writes.
 //
-// It promises, for any state, any lent length and any address: an answer or a refusal by document 01's numbers, as specs/Calls.antt
-// says, no byte touched outside a good span, and nothing changed by a refusal. specs/Address.antt and specs/Pages.antt have the rules
-// over the page size, proofs/Laws.antt what follows from them. The pages of a lent slice lie one behind the other, so an address is a
-// place in the slice, and only the test for good spans needs its page. It uses limits, numbers, spans and fastcpy.
+// It promises, for any state, any lent length and any address: an answer or a refusal by document 01's numbers, as
+// specs/Calls.antt says, no byte touched outside a good span, and nothing changed by a refusal. specs/Address.antt and
+// specs/Pages.antt have the rules for every page size, proofs/Laws.antt what follows from them. The pages of a lent
+// slice lie one behind the other, so an address is a place in the slice, and only the test for good spans needs its
+// page. It uses limits, numbers, spans and fastcpy.
 ghost use mathlib.Core.Path.{_≡_};
 ghost use mathlib.Core.Bool.{true};
-ghost use Prim.Native.Nat.{_+_, _≤_, _<_, _%_, _^_};
-ghost use Rattle.limits.specs.Limits.{pageSize};
+ghost use Prim.Native.Nat.{_+_, _*_, _≤_, _<_, _%_, _^_};
+ghost use Rattle.limits.specs.Limits.{pageTaken};
 ghost use Rattle.limits.specs.Refusals.{allocating, touching, permitted};
 ghost use Rattle.numbers.specs.Wrap.{wrapAdd};
 ghost use Rattle.memory_arena.specs.Address.{addressOf, pageOf, placeOf};
 ghost use Rattle.memory_arena.specs.Pages.{capacityOf, goodSpan, roomFor};
 ghost use Rattle.memory_arena.specs.Calls.{sensible, reachable, allocateOf, saidAllocated, readOf, writeOf, sliceOf, out, saidTouched};
 
-// An arena's state beside its lent pages: the current page, and the bytes used there.
+// An arena's state beside its lent pages: the current page, the bytes used there, and a page's bytes.
 pub struct Arena {
     pub page: usize,
     pub used: usize,
+    pub size: usize,
 }
 
 // What an allocation answers: an address and the state after it; no page has room; or a refusal.
@@ -35,23 +37,37 @@ pub enum Touched {
 
 // ---- addresses
 
+// Whether a page may have this many bytes.
+pub fn is_page_size(size: usize) -> bool
+    ensures { λ r. ⌜ r ≡ pageTaken size ⌝ }
+{
+    (size == limits::SMALLEST_PAGE)
+        | ((size == 131072) | ((size == 262144) | ((size == 524288) | (size == limits::PAGE_SIZE))))
+}
+
 // Page and place put together, modulo 2^32.
-pub fn addr_new(page: u32, place: u32) -> u32
-    ensures { λ r. ⌜ r ≡ addressOf pageSize page place % 2 ^ 32 ⌝ }
+pub fn addr_new(size: u32, page: u32, place: u32) -> u32
+    ensures { λ r. ⌜ r ≡ addressOf size page place % 2 ^ 32 ⌝ }
 {
-    (((page as u64) * (limits::PAGE_SIZE as u64) + (place as u64)) % 4294967296) as u32
+    (((page as u64) * (size as u64) + (place as u64)) % 4294967296) as u32
 }
 
-pub fn page_id(addr: u32) -> usize
-    ensures { λ r. ⌜ r ≡ pageOf pageSize addr ⌝ }
+// An address's page. A page's bytes are a power of two, and the zero bits at their end say how far to shift.
+fn page_id(size: usize, addr: u32) -> usize
+    requires { ⌜ pageTaken size ≡ true ⌝ }
+    ensures { λ r. ⌜ r ≡ pageOf size addr ⌝ }
 {
-    (addr >> limits::PAGE_SHIFT) as usize
+    let shift = u64::trailing_zeros(size as u64);
+    (addr >> shift) as usize
 }
 
-pub fn page_local_addr(addr: u32) -> usize
-    ensures { λ r. ⌜ r ≡ placeOf pageSize addr ⌝ }
+// And its place there.
+fn page_local_addr(size: usize, addr: u32) -> usize
+    requires { ⌜ pageTaken size ≡ true ⌝ }
+    ensures { λ r. ⌜ r ≡ placeOf size addr ⌝ }
 {
-    (addr & limits::PAGE_MASK) as usize
+    let mask = (size - 1) as u32;
+    (addr & mask) as usize
 }
 
 // An address and an offset, which wraps.
@@ -73,35 +89,43 @@ fn least(a: usize, b: usize) -> usize
 }
 
 // How many bytes a page of a lent memory holds.
-pub fn page_capacity(len: usize, page: usize) -> usize
-    ensures { λ r. ⌜ r ≡ capacityOf pageSize len page ⌝ }
+fn page_capacity(size: usize, len: usize, page: usize) -> usize
+    requires { ⌜ page * size < 2 ^ 64 ⌝ }
+    ensures { λ r. ⌜ r ≡ capacityOf size len page ⌝ }
 {
-    if len / limits::PAGE_SIZE < page {
+    let from = page * size;
+    if len < from {
         return 0;
     }
-    least(limits::PAGE_SIZE, len - page * limits::PAGE_SIZE)
+    least(size, len - from)
 }
 
-// Whether an arena state is one of a lent memory of that length.
+// Whether an arena state is one of a lent memory of that length. A page that no arena has is sorted out first, so that
+// the product is small.
 pub fn is_sensible(arena: Arena, len: usize) -> bool
     ensures { λ r. ⌜ r ≡ sensible arena len ⌝ }
 {
     let page = arena.page;
     let used = arena.used;
-    if len == 0 {
+    let size = arena.size;
+    if !is_page_size(size) {
         return false;
     }
-    let last = (len - 1) / limits::PAGE_SIZE;
-    let capacity = page_capacity(len, page);
-    (len <= limits::ARENA_LIMIT) & (page <= last) & (used <= capacity)
+    if limits::PAGE_LIMIT <= page {
+        return false;
+    }
+    let from = page * size;
+    let capacity = page_capacity(size, len, page);
+    (len <= limits::ADDRESSES - size) & ((from < len) & (used <= capacity))
 }
 
 // Whether n bytes from an address lie within the used bytes of one page.
 pub fn is_good_span(arena: Arena, at: u32, n: usize) -> bool
-    ensures { λ r. ⌜ r ≡ goodSpan pageSize arena at n ⌝ }
+    requires { ⌜ pageTaken (arena .size) ≡ true ⌝ }
+    ensures { λ r. ⌜ r ≡ goodSpan arena at n ⌝ }
 {
-    let page = page_id(at);
-    let place = page_local_addr(at);
+    let page = page_id(arena.size, at);
+    let place = page_local_addr(arena.size, at);
     if arena.page < page {
         return false;
     }
@@ -113,12 +137,12 @@ pub fn is_good_span(arena: Arena, at: u32, n: usize) -> bool
 }
 
 fn used_on(arena: Arena, page: usize) -> usize
-    ensures { λ r. ⌜ r ≡ Rattle.memory_arena.specs.Pages.usedOn pageSize arena page ⌝ }
+    ensures { λ r. ⌜ r ≡ Rattle.memory_arena.specs.Pages.usedOn arena page ⌝ }
 {
     if page == arena.page {
         return arena.used;
     }
-    limits::PAGE_SIZE
+    arena.size
 }
 
 // Whether a span of the lent pages may be touched.
@@ -135,29 +159,32 @@ fn is_reachable(arena: Arena, len: usize, at: u32, n: usize) -> bool
 
 // Room for n bytes, which are at most a page's, in an arena whose state is sensible.
 pub fn find_room(arena: Arena, len: usize, n: usize) -> Allocated
-    requires { ⌜ (0 < n) × ((n ≤ pageSize) × (sensible arena len ≡ true)) ⌝ }
-    ensures { λ r. ⌜ r ≡ roomFor pageSize arena len n ⌝ }
+    requires { ⌜ (0 < n) × ((n ≤ arena .size) × (sensible arena len ≡ true)) ⌝ }
+    ensures { λ r. ⌜ r ≡ roomFor arena len n ⌝ }
 {
     let page = arena.page;
     let used = arena.used;
-    if used + n <= page_capacity(len, page) {
-        let at = page * limits::PAGE_SIZE + used;
+    let size = arena.size;
+    if used + n <= page_capacity(size, len, page) {
+        let at = page * size + used;
         return Allocated::At(
             at as u32,
             Arena {
                 page,
                 used: used + n,
+                size,
             },
         );
     }
     let next = page + 1;
-    if n <= page_capacity(len, next) {
-        let at = next * limits::PAGE_SIZE;
+    if n <= page_capacity(size, len, next) {
+        let at = next * size;
         return Allocated::At(
             at as u32,
             Arena {
                 page: next,
                 used: n,
+                size,
             },
         );
     }
@@ -169,10 +196,14 @@ pub fn allocate_space(arena: Arena, len: usize, n: usize) -> Allocated
     ensures settled { λ r. ⌜ r ≡ allocateOf arena len n ⌝ }
     ensures numbered { λ r. ⌜ permitted allocating (saidAllocated r) ≡ true ⌝ }
 {
+    let size = arena.size;
+    if !is_page_size(size) {
+        return Allocated::Refused(10);
+    }
     if n == 0 {
         return Allocated::Refused(9);
     }
-    if limits::PAGE_SIZE < n {
+    if size < n {
         return Allocated::Refused(9);
     }
     if is_sensible(arena, len) {

@@ -41,7 +41,9 @@ withBytes o bs = appendOf (stateOf (o .answer)) (o .memory) lane-a bs
 
 -- the store as created with capacity 1 and seed 0
 abbrev start : Out
-start = out (Accepted (freshState 0 18 64 64 1)) (lent (createOf 1 0 (sevens 18) 64 64 .table) (sevens 64) (sevens 64))
+start =
+    out (Accepted (freshState 0 65536 18 64 64 1))
+    (lent (createOf 1 0 65536 (sevens 18) 64 64 .table) (sevens 64) (sevens 64))
 
 abbrev lowest : ℤ
 lowest = negsuc 2147483647

@@ -6,6 +6,7 @@ use mathlib.Core.List.{List}
 use native.Mathlib.Omega.{arith}
 use lib.ListN.{length}
 use borrow.Author.Tests.{lt-ltb, le-ltb}
+use Rattle.limits.specs.Limits.{nameLimitFor}
 use Rattle.numbers.specs.LittleEndian.{leNumber}
 use Rattle.spans.specs.Span.{readSpan}
 use Rattle.store.specs.declared.Created.{Created}
@@ -16,6 +17,7 @@ use Rattle.store.proofs.Whole.{create-made, create-barred}
 use Rattle.store.specs.declared.State.{State}
 use Rattle.history.specs.History.{World, play, Born, joined}
 use Rattle.history.specs.Promises.{ReadsAs}
+use Rattle.history.proofs.Born.{born-size}
 use Rattle.history.proofs.Demand.{reads-back}
 use Rattle.replay.specs.declared.Entry.{Entry}
 use Rattle.replay.specs.declared.Entry.the-variants.{Whole, NoEntry}
@@ -79,43 +81,43 @@ abbrev numberIn : Created → ℕ
 numberIn (Made st) = 0
 numberIn (Barred n) = n
 
-module _ (capacity seed : ℕ) (m : Lent) (s : List ℕ) where
+module _ (capacity seed size : ℕ) (m : Lent) (s : List ℕ) where
   -- both clauses of the contract
   abbrev Meets : Created → Lent → Type 0
-  Meets r m′ = (out r m′ ≡ replayOf capacity seed m s) × Replayed capacity seed m s r m′
+  Meets r m′ = (out r m′ ≡ replayOf capacity seed size m s) × Replayed capacity seed size m s r m′
 
   abbrev onCreated : Create·Out → Out
   onCreated o = playedOn (o .answer) (o .table) m s
 
   -- refused: by 1, and nothing has changed
-  barred : (n : ℕ) (t : List ℕ) → Create·out (Barred n) t ≡ createdOn capacity seed m → (b : Bool)
-      → creatable capacity (length (m .table)) (length (m .keys)) (length (m .lists)) ≡ b
-      → Replayed capacity seed m s (Barred n) (lent t (m .keys) (m .lists))
+  barred : (n : ℕ) (t : List ℕ) → Create·out (Barred n) t ≡ createdOn capacity seed size m → (b : Bool)
+      → creatable capacity size (length (m .table)) (length (m .keys)) (length (m .lists)) ≡ b
+      → Replayed capacity seed size m s (Barred n) (lent t (m .keys) (m .lists))
   barred n t p true e =
-      let q = p ∙ create-made capacity seed (m .table) (length (m .keys)) (length (m .lists)) e in
+      let q = p ∙ create-made capacity seed size (m .table) (length (m .keys)) (length (m .lists)) e in
       absurd (false≢true (ap (λ (o : Create·Out). isMade (o .answer)) q))
   barred n t p false e =
-      let q = p ∙ create-barred capacity seed (m .table) (length (m .keys)) (length (m .lists)) e in
+      let q = p ∙ create-barred capacity seed size (m .table) (length (m .keys)) (length (m .lists)) e in
       let same : t ≡ m .table = ap (λ (o : Create·Out). o .table) q in (
         sym p ∙ ap (Create·out (Barred n)) same,
         ap (λ (o : Create·Out). numberIn (o .answer)) q,
         ap (λ (t : List ℕ). lent t (m .keys) (m .lists)) same,
       )
 
-  pub replay-barred : (n : ℕ) (t : List ℕ) → Create·out (Barred n) t ≡ createdOn capacity seed m
+  pub replay-barred : (n : ℕ) (t : List ℕ) → Create·out (Barred n) t ≡ createdOn capacity seed size m
       → Meets (Barred n) (lent t (m .keys) (m .lists))
   replay-barred n t p = (
     ap onCreated p,
-    barred n t p (creatable capacity (length (m .table)) (length (m .keys)) (length (m .lists))) refl,
+    barred n t p (creatable capacity size (length (m .table)) (length (m .keys)) (length (m .lists))) refl,
   )
 
   -- accepted: what the script's appends leave, so demand 3
   pub replay-made : (first : State) (t : List ℕ) (st : State) (m′ : Lent)
-      → Create·out (Made first) t ≡ createdOn capacity seed m
+      → Create·out (Made first) t ≡ createdOn capacity seed size m
       → world st m′ ≡ play (callsOf s) (world first (lent t (m .keys) (m .lists))) → Meets (Made st) m′
   replay-made first t st m′ p q =
       let w : World = world first (lent t (m .keys) (m .lists)) in
-      let born : Born capacity seed (m .table) (m .keys) (m .lists) w =
+      let born : Born capacity seed size (m .table) (m .keys) (m .lists) w =
       record { made = sym p; keys-as-lent = refl; lists-as-lent = refl } in (
         ap leftBy q ∙ ap onCreated p,
         (
@@ -124,12 +126,14 @@ module _ (capacity seed : ℕ) (m : Lent) (s : List ℕ) where
           q,
           λ name short.
               subst (λ (v : World). ReadsAs v name (joined name (callsOf s) w)) (sym q)
-              (reads-back capacity seed (m .table) (m .keys) (m .lists) w born (callsOf s) name short),
+              (reads-back capacity seed size (m .table) (m .keys) (m .lists) w born (callsOf s) name
+              (subst (λ (k : ℕ). length name ≤ nameLimitFor k)
+              (sym (born-size capacity seed size (m .table) (m .keys) (m .lists) w born)) short)),
         ),
       )
 
   -- what meets the second clause meets the first
-  replayed-is : (r : Created) (m′ : Lent) → Replayed capacity seed m s r m′ → out r m′ ≡ replayOf capacity seed m s
+  replayed-is : (r : Created) (m′ : Lent) → Replayed capacity seed size m s r m′ → out r m′ ≡ replayOf capacity seed size m s
   replayed-is (Barred n) m′ P = ap (out (Barred n)) (P .2) ∙ sym (ap onCreated (P .0))
   replayed-is (Made st) m′ P =
       let first : World = world (P .0 .state) (lent (P .0 .memory .table) (m .keys) (m .lists)) in
@@ -138,6 +142,6 @@ module _ (capacity seed : ℕ) (m : Lent) (s : List ℕ) where
       ap leftBy (P .2) ∙ ap (λ (w : World). leftBy (play (callsOf s) w)) lent-is ∙ sym (ap onCreated (P .1 .made))
 
   -- "that two permitted outcomes coincide is itself proved"
-  pub replay-settled : (r₁ r₂ : Created) (m₁ m₂ : Lent) → Replayed capacity seed m s r₁ m₁
-      → Replayed capacity seed m s r₂ m₂ → out r₁ m₁ ≡ out r₂ m₂
+  pub replay-settled : (r₁ r₂ : Created) (m₁ m₂ : Lent) → Replayed capacity seed size m s r₁ m₁
+      → Replayed capacity seed size m s r₂ m₂ → out r₁ m₁ ≡ out r₂ m₂
   replay-settled r₁ r₂ m₁ m₂ P Q = replayed-is r₁ m₁ P ∙ sym (replayed-is r₂ m₂ Q)

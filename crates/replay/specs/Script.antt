@@ -11,7 +11,7 @@ use Rattle.spans.specs.Span.{readSpan}
 use Rattle.store.specs.declared.State.{State}
 use Rattle.store.specs.Create.{Out as Create·Out, out as Create·out, createOf}
 use Rattle.store.specs.Look.{Lent, lent}
-use Rattle.limits.specs.Limits.{nameLimit}
+use Rattle.limits.specs.Limits.{nameLimitFor}
 use Rattle.store.specs.declared.Created.{Created}
 use Rattle.store.specs.declared.Created.the-variants.{Made, Barred}
 use Rattle.history.specs.History.{World, Call, appends, after, play, Born, joined}
@@ -81,20 +81,21 @@ playedOn (Made st) table m s = leftBy (play (callsOf s) (world st (lent table (m
 playedOn (Barred n) table m s = out (Barred n) (lent table (m .keys) (m .lists))
 
 -- RULES Y11.
-abbrev pub createdOn : ℕ → ℕ → Lent → Create·Out
-createdOn capacity seed m = createOf capacity seed (m .table) (length (m .keys)) (length (m .lists))
+abbrev pub createdOn : ℕ → ℕ → ℕ → Lent → Create·Out
+createdOn capacity seed size m = createOf capacity seed size (m .table) (length (m .keys)) (length (m .lists))
 
 -- RULES Y11. Answer and every lent byte and word after the call
-abbrev pub replayOf : ℕ → ℕ → Lent → List ℕ → Out
-replayOf capacity seed m s = playedOn (createdOn capacity seed m .answer) (createdOn capacity seed m .table) m s
+abbrev pub replayOf : ℕ → ℕ → ℕ → Lent → List ℕ → Out
+replayOf capacity seed size m s =
+    playedOn (createdOn capacity seed size m .answer) (createdOn capacity seed size m .table) m s
 
 -- RULES Y11. What that comes to, of the answer and the memory m′ afterwards. Refused: creation refuses, by 1, and
 -- nothing has changed. Accepted: the store is what the script's appends leave of a fresh one, and (demand 3) each name
 -- reads as its accepted appends joined in order, or is absent.
-abbrev pub Replayed : ℕ → ℕ → Lent → List ℕ → Created → Lent → Type 0
-Replayed capacity seed m s (Barred n) m′ =
-    (createdOn capacity seed m ≡ Create·out (Barred n) (m .table)) × (n ≡ 1) × (m′ ≡ m)
-Replayed capacity seed m s (Made st) m′ =
-    (fresh : World) × Born capacity seed (m .table) (m .keys) (m .lists) fresh
+abbrev pub Replayed : ℕ → ℕ → ℕ → Lent → List ℕ → Created → Lent → Type 0
+Replayed capacity seed size m s (Barred n) m′ =
+    (createdOn capacity seed size m ≡ Create·out (Barred n) (m .table)) × (n ≡ 1) × (m′ ≡ m)
+Replayed capacity seed size m s (Made st) m′ =
+    (fresh : World) × Born capacity seed size (m .table) (m .keys) (m .lists) fresh
     × (world st m′ ≡ play (callsOf s) fresh)
-    × ((name : List ℕ) → length name ≤ nameLimit → ReadsAs (world st m′) name (joined name (callsOf s) fresh))
+    × ((name : List ℕ) → length name ≤ nameLimitFor size → ReadsAs (world st m′) name (joined name (callsOf s) fresh))

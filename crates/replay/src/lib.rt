@@ -124,19 +124,20 @@ fn play_script(
 pub fn replay(
     capacity: usize,
     seed: u32,
+    size: usize,
     table: &mut [u32],
     keys: &mut [u8],
     lists: &mut [u8],
     script: &[u8],
 ) -> Created
     ensures settled { λ r. ⌜ out r (lent (now (table .exit)) (now (keys .exit)) (now (lists .exit)))
-        ≡ replayOf capacity seed (lent (now (table .entry)) (now (keys .entry)) (now (lists .entry)))
+        ≡ replayOf capacity seed size (lent (now (table .entry)) (now (keys .entry)) (now (lists .entry)))
         (now (script .entry)) ⌝ }
-    ensures replayed { λ r. ⌜ Replayed capacity seed
+    ensures replayed { λ r. ⌜ Replayed capacity seed size
         (lent (now (table .entry)) (now (keys .entry)) (now (lists .entry))) (now (script .entry))
         r (lent (now (table .exit)) (now (keys .exit)) (now (lists .exit))) ⌝ }
 {
-    let made = store::create::create(capacity, seed, table, keys, lists);
+    let made = store::create::create(capacity, seed, size, table, keys, lists);
     let Created::Made(st) = made else {
         return made;
     };

@@ -3,8 +3,8 @@
 //
 // A script's bytes stand in the input as hex: for each append name length (2 bytes, little-endian), name, byte length
 // (4), bytes. It promises only that it ends and stays in bounds; what a replay leaves, crate replay promises. The file
-// stdout has the answers of oracle/replay.py. It uses memory_arena and store (for the state), replay, text, say,
-// script, bench_state, bench_areas, bench_read, and the kit's io.
+// stdout has the answers of oracle/replay.py. It uses limits, memory_arena and store (for the state), replay, text,
+// say, script, bench_state, bench_areas, bench_read, and the kit's io.
 use script::lines;
 use script::rows;
 use store::Created;
@@ -13,8 +13,8 @@ use text::fault;
 use text::words;
 
 // The commands; those from 20 on are the testbench's.
-const TABLE: [u8; 72] = *b"1 script BYTES
-2 replay CAPACITY SEED
+const TABLE: [u8; 79] = *b"1 script BYTES
+2 replay CAPACITY SEED [SIZE]
 22 read NAME ROOM
 30 state
 42 sum
@@ -54,7 +54,7 @@ fn say_replayed(made: Created, st: State) -> State {
     }
 }
 
-// `replay CAPACITY SEED`: plays what is gathered.
+// `replay CAPACITY SEED [SIZE]`: plays what is gathered.
 fn play_script(
     s: Shift,
     line: &[u8],
@@ -64,7 +64,9 @@ fn play_script(
     lists: &mut [u8],
 ) -> Shift {
     let g = words::first_numbers(line, 2);
-    let fault = fault::first(g.fault, words::beyond_32(g.b));
+    let size = words::number_or(line, 3, limits::PAGE_SIZE as u64);
+    let wide = fault::first(g.fault, words::beyond_32(g.b));
+    let fault = fault::first(wide, size.fault);
     if fault != 0 {
         say::fault(fault);
         return s;
@@ -74,6 +76,7 @@ fn play_script(
     let made = replay::replay(
         g.a as usize,
         words::low_32(g.b),
+        size.value as usize,
         table,
         keys,
         lists,

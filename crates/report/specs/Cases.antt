@@ -20,10 +20,10 @@ abbrev sevens : ℕ → List ℕ
 sevens n = replicate n 7
 
 abbrev start : State
-start = freshState 0 18 64 64 1
+start = freshState 0 65536 18 64 64 1
 
 abbrev lent-at-first : Lent
-lent-at-first = lent (createOf 1 0 (sevens 18) 64 64 .table) (sevens 64) (sevens 64)
+lent-at-first = lent (createOf 1 0 65536 (sevens 18) 64 64 .table) (sevens 64) (sevens 64)
 
 abbrev stateOf : Appended → State
 stateOf (Accepted st) = st

@@ -9,7 +9,7 @@ use native.Mathlib.Omega.{arith}
 use lib.Dec.{leb}
 use lib.ListN.{length, length-map}
 use borrow.Author.Tests.{le-leb, lt-leb}
-use Rattle.limits.specs.Limits.{nameLimit, bucketLimit}
+use Rattle.limits.specs.Limits.{nameLimit, bucketLimit, name-within}
 use Rattle.numbers.specs.LittleEndian.{Bytes}
 use Rattle.spans.specs.Span.{readSpan, overwrite}
 use Rattle.spans.proofs.Laws.{read-written}
@@ -19,6 +19,7 @@ use Rattle.expull.specs.Blocks.{laneBytes}
 use Rattle.store.specs.declared.Lookup.the-variants.{At, Missing, Failed}
 use Rattle.store.specs.declared.Listed.{Listed}
 use Rattle.store.specs.declared.Listed.the-variants.{Bucket, NoMore, Stopped}
+use Rattle.store.specs.Name.{nameLimitOf}
 use Rattle.store.specs.Look.{checked, headerOf, blocksSound, lookupOf, nextOf}
 use Rattle.store.proofs.Whole.{whole-facts, buckets-few}
 use Rattle.history_names.specs.Listing.{times}
@@ -60,14 +61,14 @@ module _ (w : World) (calls : List Call) (D : Demand3 w calls) where
     pub own : joined (keyAt (now .memory .keys) at) calls w ≡ some (laneAt (now .memory) at .bytes)
 
   short-name : (at : ℕ) → lookupOf (now .state) (now .memory) (keyAt (now .memory .keys) at) ≡ At at
-      → length (keyAt (now .memory .keys) at) ≤ nameLimit
+      → length (keyAt (now .memory .keys) at) ≤ nameLimitOf (w .state)
   short-name at e =
       ⊎-elim
-      (λ (h : nameLimit < length (keyAt (now .memory .keys) at)).
+      (λ (h : nameLimitOf (w .state) < length (keyAt (now .memory .keys) at)).
       let f = D .long-never (keyAt (now .memory .keys) at) h .1 in
       let z : _≡_ {A = ℕ} 0 1 = cc in absurd (omega arith))
-      (λ (h : length (keyAt (now .memory .keys) at) ≤ nameLimit). h)
-      (below-or nameLimit (length (keyAt (now .memory .keys) at)))
+      (λ (h : length (keyAt (now .memory .keys) at) ≤ nameLimitOf (w .state)). h)
+      (below-or (nameLimitOf (w .state)) (length (keyAt (now .memory .keys) at)))
 
   holds : (at : ℕ) → lookupOf (now .state) (now .memory) (keyAt (now .memory .keys) at) ≡ At at → Holds at
   unfolding laneAt
@@ -84,7 +85,7 @@ module _ (w : World) (calls : List Call) (D : Demand3 w calls) where
           let z : R .place ≡ at = cc in
           record {
             sound = subst (λ (x : ℕ). blocksSound (now .state) (now .memory) x ≡ true) z (R .blocks-good);
-            short = short-name at e;
+            short = omega (arith, short-name at e, name-within (w .state .«key_arena» .size));
             own =
                 p ∙ ap some (sym (subst
                 (λ (x : ℕ). laneBytes (now .memory .lists) (headerOf (now .memory .keys) x) ≡ bs) z (R .blocks-hold)));
@@ -224,8 +225,8 @@ module _ (w : World) (calls : List Call) (D : Demand3 w calls) where
   }
 
 -- ONE: a report of a store with a history reads back as the same lanes in order
-pub reports-back : (capacity seed : ℕ) (table keys lists : List ℕ) (w : World) → Born capacity seed table keys lists w
+pub reports-back : (capacity seed size : ℕ) (table keys lists : List ℕ) (w : World) → Born capacity seed size table keys lists w
     → (calls : List Call) → (ls : List Lane) × ReportsBack w calls ls
-reports-back capacity seed table keys lists w B calls =
-    let D = demand-3 capacity seed table keys lists w B calls in
+reports-back capacity seed size table keys lists w B calls =
+    let D = demand-3 capacity seed size table keys lists w B calls in
     (map (laneAt (play calls w .memory)) (listedPlaces (play calls w)), told-back w calls D)

@@ -136,7 +136,7 @@ fn go_on(st: State, table: &mut [u32], keys: &mut [u8], lists: &mut [u8], output
 }
 
 fn play(table: &mut [u32], keys: &mut [u8], lists: &mut [u8], output: &mut [u8]) {
-    let made = store::create::create(1, 7, table, keys, lists);
+    let made = store::create::create(1, 7, limits::PAGE_SIZE, table, keys, lists);
     let Created::Made(st) = made else {
         return;
     };

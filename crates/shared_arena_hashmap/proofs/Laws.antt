@@ -10,7 +10,7 @@ use lib.Dec.{leb, eqb}
 use lib.Pow.{pow-pos, pow-mono}
 use lib.ListN.{length, set, take, drop}
 use borrow.Author.Tests.{le-leb, lt-leb, leb-true, leb-false, eq-eqb, eqb-true}
-use Rattle.limits.specs.Limits.{pageSize, bucketLimit, nullAddress, recordExtra}
+use Rattle.limits.specs.Limits.{bucketLimit, nullAddress, recordExtra}
 use Rattle.numbers.proofs.Tests.{both, left-false, cond-true, cond-false}
 use Rattle.spans.specs.Span.{readSpan}
 use Rattle.spans.proofs.Laws.{length-overwrite, overwrite-append, overwrite-none, store-one, store-next}
@@ -261,12 +261,12 @@ length-grown n old first l t = length-all-reentered n old first l (cleared first
 
 -- ---- records
 
-pub record-short : (a : Arena) (keys : List ℕ) (at : ℕ) → goodSpan pageSize a at 2 ≡ false → goodRecord a keys at ≡ false
+pub record-short : (a : Arena) (keys : List ℕ) (at : ℕ) → goodSpan a at 2 ≡ false → goodRecord a keys at ≡ false
 unfolding goodRecord
 record-short a keys at e = left-false _ _ e
 
-pub record-whole : (a : Arena) (keys : List ℕ) (at n : ℕ) → goodSpan pageSize a at 2 ≡ true → n ≡ keyLength keys at
-    → goodSpan pageSize a at (n + recordExtra) ≡ goodRecord a keys at
+pub record-whole : (a : Arena) (keys : List ℕ) (at n : ℕ) → goodSpan a at 2 ≡ true → n ≡ keyLength keys at
+    → goodSpan a at (n + recordExtra) ≡ goodRecord a keys at
 unfolding goodRecord
 record-whole a keys at n e f = rw (e, f)
 
@@ -275,8 +275,8 @@ pub good-record-in : (a : Arena) (keys : List ℕ) (at : ℕ) → sensible a (le
     → at + (keyLength keys at + recordExtra) ≤ length keys
 unfolding goodRecord
 good-record-in a keys at s g =
-    good-in pageSize a at (keyLength keys at + recordExtra) (length keys) (sensible-facts a (length keys) s .stands)
-    (both (goodSpan pageSize a at 2) (goodSpan pageSize a at (keyLength keys at + recordExtra)) g .1)
+    good-in a at (keyLength keys at + recordExtra) (length keys) (sensible-facts a (length keys) s .stands)
+    (both (goodSpan a at 2) (goodSpan a at (keyLength keys at + recordExtra)) g .1)
 
 -- the record against a name, as code has it: the key is a part from a start to an end
 pub seen-broken : (keys : List ℕ) (a : Arena) (at : ℕ) (name : List ℕ) → goodRecord a keys at ≡ false → seenRecord keys a at name ≡ Broken

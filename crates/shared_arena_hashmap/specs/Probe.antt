@@ -5,7 +5,7 @@ use Prim.Native.Nat.{ℕ, zero, suc, _+_, _%_}
 use mathlib.Core.Bool.{Bool, cond, _&&_}
 use mathlib.Core.List.{List}
 use lib.Dec.{eqb}
-use Rattle.limits.specs.Limits.{pageSize, recordExtra}
+use Rattle.limits.specs.Limits.{recordExtra}
 use Rattle.numbers.specs.LittleEndian.{leNumber}
 use Rattle.spans.specs.Span.{readSpan}
 use Rattle.fastcmp.specs.Equal.{equalBytes}
@@ -30,7 +30,7 @@ keyLength keys at = leNumber (readSpan at 2 keys)
 -- RULES M5, W1. Its length bytes and then all of it are good spans.
 unfoldable pub goodRecord : Arena → List ℕ → ℕ → Bool
 unfolding keyLength goodSpan
-goodRecord a keys at = goodSpan pageSize a at 2 && goodSpan pageSize a at (keyLength keys at + recordExtra)
+goodRecord a keys at = goodSpan a at 2 && goodSpan a at (keyLength keys at + recordExtra)
 
 -- RULES M4. The key bytes start at the third byte of the record.
 unfoldable pub keyAt : List ℕ → ℕ → List ℕ

@@ -7,7 +7,7 @@ use mathlib.Core.List.{List, [], _∷_, _++_}
 use types.Run.{OneOf, miss}
 use denote.Enum.Declared.{tagOf}
 use lib.ListN.{length}
-use Rattle.limits.specs.Limits.{pageSize, recordExtra}
+use Rattle.limits.specs.Limits.{recordExtra}
 use Rattle.numbers.proofs.Tests.{both-true, left-false, right-false, not-both}
 use Rattle.numbers.specs.LittleEndian.{leBytes}
 use Rattle.numbers.proofs.Laws.{length-le}
@@ -113,7 +113,7 @@ module _ (st : State) (m : Lent) (name bytes : List ℕ) where
   unfolding appendNew
   new-5 e = rw e
 
-  pub new-room : isCrowded st ≡ false → (r : Allocated) → roomFor pageSize (st .«key_arena») (length (m .keys)) (length name + recordExtra) ≡ r
+  pub new-room : isCrowded st ≡ false → (r : Allocated) → roomFor (st .«key_arena») (length (m .keys)) (length name + recordExtra) ≡ r
       → appendNew st m name bytes ≡ onKeyRoom r st m name bytes
   unfolding appendNew
   new-room e r f = rw (e, f)

@@ -7,7 +7,7 @@ use mathlib.Core.Option.{Option, none, some}
 use mathlib.Core.List.{List}
 use native.Mathlib.Omega.{arith}
 use lib.ListN.{length}
-use Rattle.limits.specs.Limits.{pageSize, nameLimit, recordExtra}
+use Rattle.limits.specs.Limits.{nameLimit, recordExtra}
 use Rattle.numbers.specs.LittleEndian.{leNumber, leBytes}
 use Rattle.numbers.proofs.Laws.{length-le, le-round}
 use Rattle.numbers.proofs.Tests.{not-both}
@@ -43,7 +43,7 @@ use Rattle.store.specs.Append.{tableGrown, movedState, recordBytes, newW
 use Rattle.store.specs.Append.{appendOf}
 use Rattle.store.specs.Promises.{Entered}
 use Rattle.store.proofs.Whole.{Whole, whole-facts, Growable, growable, grown-stands, first-in}
-use Rattle.store.proofs.Guard.{kind-length}
+use Rattle.store.proofs.Guard.{kind-short}
 use Rattle.store.proofs.Cases.{state-stays, state-grows, table-stays, table-grows, does-grow}
 use Rattle.store.proofs.Cases.{stays-unsaturated, record-written}
 
@@ -148,12 +148,12 @@ module _ (st : State) (m : Lent) (c : checked st m ≡ true) (name : List ℕ) (
         })
 
     enters-room : isCrowded st ≡ false → (r : Allocated)
-        → roomFor pageSize (st .«key_arena») (length (m .keys)) (length name + recordExtra) ≡ r
+        → roomFor (st .«key_arena») (length (m .keys)) (length name + recordExtra) ≡ r
         → Enters st m name (onKeyRoom r st m name bytes)
     unfolding onKeyRoom
     enters-room k (At at a) e =
         enters-written at a k
-        (room-in pageSize (st .«key_arena») (length (m .keys)) (length name + recordExtra) at a (omega arith)
+        (room-in (st .«key_arena») (length (m .keys)) (length name + recordExtra) at a (omega arith)
         (sensible-facts (st .«key_arena») (length (m .keys)) (whole .key-arena) .stands) e)
         (appended bytes (writing (m .lists) (st .«list_arena») fresh))
     enters-room k NoRoom e = enters-declined 6
@@ -167,10 +167,10 @@ module _ (st : State) (m : Lent) (c : checked st m ≡ true) (name : List ℕ) (
             → Enters st m name
             (cond b (declined st m 5)
             (onKeyRoom
-            (roomFor pageSize (st .«key_arena») (length (m .keys)) (length name + recordExtra)) st m name bytes))
+            (roomFor (st .«key_arena») (length (m .keys)) (length name + recordExtra)) st m name bytes))
         go true e = enters-declined 5
         go false e = enters-room e
-            (roomFor pageSize (st .«key_arena») (length (m .keys)) (length name + recordExtra)) refl
+            (roomFor (st .«key_arena») (length (m .keys)) (length name + recordExtra)) refl
 
   enters-met : (bytes : List ℕ) (x : Met) → walkOf st m name .met ≡ x → Look·onMet x ≡ Missing
       → Enters st m name (onMet x st m name bytes)
@@ -203,7 +203,7 @@ append-enters st m name bytes s l = go (checked st m) refl (nameKind st (length 
         (cond b (byKind k (declined st m 3) (declined st m 13) (onMet (walkOf st m name .met) st m name bytes))
         (declined st m 2) .memory)
     go true c Proper k l e =
-        enters-met st m c name (kind-length st (length name) Proper k .1) bytes (walkOf st m name .met) refl l s e
+        enters-met st m c name (kind-short st (length name) k) bytes (walkOf st m name .met) refl l s e
     go true c Nameless k l e = let z : _≡_ {A = ℕ} 0 1 = cc in absurd (omega arith)
     go true c TooLong k l e = let z : _≡_ {A = ℕ} 0 1 = cc in absurd (omega arith)
     go false c k e l f = let z : _≡_ {A = ℕ} 0 1 = cc in absurd (omega arith)

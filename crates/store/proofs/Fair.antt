@@ -8,7 +8,7 @@ use mathlib.Core.List.{List}
 use native.Mathlib.Omega.{arith}
 use lib.Dec.{leb, eqb}
 use lib.ListN.{length}
-use Rattle.limits.specs.Limits.{pageSize, recordExtra}
+use Rattle.limits.specs.Limits.{recordExtra}
 use Rattle.limits.specs.Refusals.{Asked, appending, lookingUp, measuring, readingLane, findingBlock, listingBuckets}
 use Rattle.limits.specs.Refusals.{isAmong, refusalNumbers, permitted}
 use Rattle.memory_arena.specs.declared.Arena.{Arena}
@@ -98,7 +98,7 @@ module _ (st : State) (m : Lent) (name bytes : List ℕ) where
   unfolding appendNew
   fair-new =
       fair-cond (isCrowded st) _ _ (fair-declined st m 5 refl)
-      (fair-room (roomFor pageSize (st .«key_arena») (length (m .keys)) (length name + recordExtra)))
+      (fair-room (roomFor (st .«key_arena») (length (m .keys)) (length name + recordExtra)))
 
   fair-met : (x : Met) → Fair st m (onMet x st m name bytes)
   unfolding onMet

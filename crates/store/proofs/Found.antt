@@ -9,7 +9,6 @@ use denote.Enum.Declared.{tagOf}
 use lib.Dec.{leb}
 use lib.ListN.{length}
 use borrow.Author.Tests.{le-leb, lt-leb}
-use Rattle.limits.specs.Limits.{pageSize}
 use Rattle.numbers.proofs.Tests.{right-false}
 use Rattle.spans.specs.Span.{readSpan, overwrite}
 use Rattle.memory_arena.specs.declared.Arena.{Arena}
@@ -246,13 +245,13 @@ pub next-none : (a : Arena) (keys : List ℕ) → onNext NoBucket a keys ≡ NoM
 unfolding onNext
 next-none a keys = refl
 
-pub show-part : (st : State) (m : Lent) (at n : ℕ) → checked st m ≡ true → goodSpan pageSize (st .«list_arena») at n ≡ true → showOf st m at n ≡ readSpan at n (m .lists)
+pub show-part : (st : State) (m : Lent) (at n : ℕ) → checked st m ≡ true → goodSpan (st .«list_arena») at n ≡ true → showOf st m at n ≡ readSpan at n (m .lists)
 unfolding showOf
 show-part st m at n e f = rw (e, f)
 
-pub show-bad : (st : State) (m : Lent) (at n : ℕ) → goodSpan pageSize (st .«list_arena») at n ≡ false → showOf st m at n ≡ []
+pub show-bad : (st : State) (m : Lent) (at n : ℕ) → goodSpan (st .«list_arena») at n ≡ false → showOf st m at n ≡ []
 unfolding showOf
-show-bad st m at n e = rw (right-false (checked st m) (goodSpan pageSize (st .«list_arena») at n) e)
+show-bad st m at n e = rw (right-false (checked st m) (goodSpan (st .«list_arena») at n) e)
 
 pub show-2 : (st : State) (m : Lent) (at n : ℕ) → checked st m ≡ false → showOf st m at n ≡ []
 unfolding showOf

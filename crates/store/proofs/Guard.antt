@@ -5,6 +5,7 @@ use mathlib.Core.Bool.{Bool, true, false, cond}
 use native.Mathlib.Omega.{arith}
 use lib.Dec.{leb, eqb}
 use borrow.Author.Tests.{le-leb, lt-leb, eq-eqb, ne-eqb, leb-true, leb-false, eqb-true, eqb-false}
+use Rattle.limits.specs.Limits.{nameLimit, name-within}
 use Rattle.store.specs.declared.State.{State}
 use Rattle.store.specs.declared.Name.{Name}
 use Rattle.store.specs.declared.Name.the-variants.{TooLong, Nameless, Proper}
@@ -44,3 +45,7 @@ module _ (st : State) where
 
   pub kind-length : (n : ℕ) (k : Name) → nameKind st n ≡ k → OfLength k n
   kind-length n k p = subst (λ (k : Name). OfLength k n) p (its-length n)
+
+  -- two bytes tell the length of a name that is let through
+  pub kind-short : (n : ℕ) → nameKind st n ≡ Proper → n ≤ nameLimit
+  kind-short n e = omega (arith, kind-length n Proper e .1, name-within (st .«key_arena» .size))

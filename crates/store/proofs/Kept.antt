@@ -8,7 +8,7 @@ use mathlib.Core.List.{List}
 use native.Mathlib.Omega.{arith}
 use lib.ListN.{length}
 use borrow.Author.Tests.{leb-false}
-use Rattle.limits.specs.Limits.{pageSize, recordExtra}
+use Rattle.limits.specs.Limits.{recordExtra}
 use Rattle.numbers.proofs.Tests.{not-both}
 use Rattle.spans.specs.Span.{overwrite}
 use Rattle.spans.proofs.Laws.{length-overwrite}
@@ -18,7 +18,7 @@ use Rattle.memory_arena.specs.declared.Allocated.{Allocated}
 use Rattle.memory_arena.specs.declared.Allocated.the-variants.{At, NoRoom, Refused}
 use Rattle.memory_arena.specs.Pages.{roomFor}
 use Rattle.memory_arena.specs.Calls.{sensible}
-use Rattle.memory_arena.proofs.Laws.{sensible-facts, sensible-made, room-standing}
+use Rattle.memory_arena.proofs.Laws.{room-size, room-sensible}
 use Rattle.shared_arena_hashmap.specs.declared.Met.{Met}
 use Rattle.shared_arena_hashmap.specs.declared.Met.the-variants.{Empty, Standing, Damaged, Lap}
 use Rattle.shared_arena_hashmap.specs.Power.{roundedDown, powerOfTwo, grownLength}
@@ -28,7 +28,7 @@ use Rattle.shared_arena_hashmap.specs.Grow.{entered, grown}
 use Rattle.shared_arena_hashmap.proofs.Laws.{rounded-is-power, grown-is-power, length-cleared, length-entered, length-grown}
 use Rattle.expull.specs.Header.{fresh, headerBytes}
 use Rattle.expull.specs.Append.{Writing, writing, appended, goodTail}
-use Rattle.expull.proofs.Laws.Append.{appended-length, appended-sensible}
+use Rattle.expull.proofs.Laws.Append.{appended-length, appended-sensible, appended-size}
 use Rattle.store.specs.declared.State.{State}
 use Rattle.store.specs.declared.Created.the-variants.{Made, Barred}
 use Rattle.store.specs.declared.Appended.the-variants.{Accepted}
@@ -81,22 +81,26 @@ grown-state st w h p = go (isSaturated st) refl (roomToGrow st) refl
 
 -- ---- what an append leaves
 
--- an append that was accepted has left a whole state
-Keeps : Out → Type 0
-Keeps o = (s : State) → o .answer ≡ Accepted s → checked s (o .memory) ≡ true
+-- a state that passes the check, of the page size that there was
+abbrev Sized : State → State → Lent → Type 0
+Sized st s m = (checked s m ≡ true) × (s .«key_arena» .size ≡ st .«key_arena» .size)
 
-keeps-declined : (st : State) (m : Lent) (n : ℕ) → Keeps (declined st m n)
+-- an append that was accepted has left such a state
+Keeps : State → Out → Type 0
+Keeps st o = (s : State) → o .answer ≡ Accepted s → Sized st s (o .memory)
+
+keeps-declined : (st : State) (m : Lent) (n : ℕ) → Keeps st (declined st m n)
 unfolding Keeps
 keeps-declined st m n s e = let z : _≡_ {A = ℕ} 0 1 = cc in absurd (omega arith)
 
-keeps-cond : (b : Bool) (x y : Out) → (b ≡ true → Keeps x) → (b ≡ false → Keeps y) → Keeps (cond b x y)
-keeps-cond true x y p q = p refl
-keeps-cond false x y p q = q refl
+keeps-cond : (st : State) (b : Bool) (x y : Out) → (b ≡ true → Keeps st x) → (b ≡ false → Keeps st y) → Keeps st (cond b x y)
+keeps-cond st true x y p q = p refl
+keeps-cond st false x y p q = q refl
 
-keeps-kind : (k : Name) (x y z : Out) → Keeps x → Keeps y → Keeps z → Keeps (byKind k x y z)
-keeps-kind TooLong x y z p q r = p
-keeps-kind Nameless x y z p q r = q
-keeps-kind Proper x y z p q r = r
+keeps-kind : (st : State) (k : Name) (x y z : Out) → Keeps st x → Keeps st y → Keeps st z → Keeps st (byKind k x y z)
+keeps-kind st TooLong x y z p q r = p
+keeps-kind st Nameless x y z p q r = q
+keeps-kind st Proper x y z p q r = r
 
 module _ (st : State) (m : Lent) (c : checked st m ≡ true) where
   w : Whole st (length (m .table)) (length (m .keys)) (length (m .lists))
@@ -115,105 +119,120 @@ module _ (st : State) (m : Lent) (c : checked st m ≡ true) where
 
   -- the state and the memory put together
   left : (keys : ℕ) (a b : Arena) (t k l : List ℕ) → keys ≤ stateGrown st .buckets → sensible a (length (m .keys)) ≡ true → sensible b (length (m .lists)) ≡ true
-      → length t ≡ length (m .table) → length k ≡ length (m .keys) → length l ≡ length (m .lists)
-      → checked (movedState (stateGrown st) keys a b) (lent t k l) ≡ true
-  left keys a b t k l n p q x y z =
+      → a .size ≡ st .«key_arena» .size → b .size ≡ st .«list_arena» .size → length t ≡ length (m .table) → length k ≡ length (m .keys) → length l ≡ length (m .lists)
+      → Sized st (movedState (stateGrown st) keys a b) (lent t k l)
+  left keys a b t k l n p q u v x y z =
       let G = grown-state st (length (m .table)) g (w .power) in
-      let S = grown-stands st (length (m .table)) g in
-      whole-made (movedState (stateGrown st) keys a b) (length t) (length k) (length l)
-      (record {
-        words-is = S .1 .1 ∙ sym x;
-        key-bytes-is = G .keys-same ∙ w .key-bytes-is ∙ sym y;
-        list-bytes-is = G .lists-same ∙ w .list-bytes-is ∙ sym z;
-        taken = subst (λ (j : ℕ). wordsTaken j ≡ true) (sym x) (w .taken);
-        power = G .power;
-        buckets-le = subst (λ (j : ℕ). stateGrown st .buckets ≤ j / 2) (S .1 .1 ∙ sym x) (S .1 .0);
-        keys-le = n;
-        key-arena = subst (λ (j : ℕ). sensible a j ≡ true) (sym y) p;
-        list-arena = subst (λ (j : ℕ). sensible b j ≡ true) (sym z) q;
-      })
+      let S = grown-stands st (length (m .table)) g in (
+        whole-made (movedState (stateGrown st) keys a b) (length t) (length k) (length l)
+            (record {
+              words-is = S .1 .1 ∙ sym x;
+              key-bytes-is = G .keys-same ∙ w .key-bytes-is ∙ sym y;
+              list-bytes-is = G .lists-same ∙ w .list-bytes-is ∙ sym z;
+              taken = subst (λ (j : ℕ). wordsTaken j ≡ true) (sym x) (w .taken);
+              power = G .power;
+              buckets-le = subst (λ (j : ℕ). stateGrown st .buckets ≤ j / 2) (S .1 .1 ∙ sym x) (S .1 .0);
+              keys-le = n;
+              sizes-are = u ∙ w .sizes-are ∙ sym v;
+              key-arena = subst (λ (j : ℕ). sensible a j ≡ true) (sym y) p;
+              list-arena = subst (λ (j : ℕ). sensible b j ≡ true) (sym z) q;
+            }),
+        u,
+      )
 
   keeps-standing-written : (at : ℕ) (bytes : List ℕ) (x : Option Writing) → appended bytes (writing (m .lists) (st .«list_arena») (headerOf (m .keys) at)) ≡ x
-      → Keeps (standingWritten x st m at)
+      → Keeps st (standingWritten x st m at)
   unfolding standingWritten Keeps
   keeps-standing-written at bytes none e s f = keeps-declined st m 7 s f
   keeps-standing-written at bytes (some v) e s f =
       let q : movedState (stateGrown st) (st .keys) (st .«key_arena») (v .arena) ≡ s = cc in
       let G = grown-state st (length (m .table)) g (w .power) in
       let k : List ℕ = overwrite (valuePlace (m .keys) at) (headerBytes (v .header)) (m .keys) in
-      subst (λ (r : State). checked r (lent (tableGrown st (m .table)) k (v .memory)) ≡ true) q
+      subst (λ (r : State). Sized st r (lent (tableGrown st (m .table)) k (v .memory))) q
       (left (st .keys) (st .«key_arena») (v .arena) (tableGrown st (m .table)) k (v .memory) (omega (arith, w .keys-le, G .no-less)) (w .key-arena)
-      (appended-sensible bytes (writing (m .lists) (st .«list_arena») (headerOf (m .keys) at)) v (w .list-arena) e) long-table
+      (appended-sensible bytes (writing (m .lists) (st .«list_arena») (headerOf (m .keys) at)) v (w .list-arena) e) refl
+      (appended-size bytes (writing (m .lists) (st .«list_arena») (headerOf (m .keys) at)) v e) long-table
       (length-overwrite (valuePlace (m .keys) at) (headerBytes (v .header)) (m .keys))
       (appended-length bytes (writing (m .lists) (st .«list_arena») (headerOf (m .keys) at)) v e))
 
-  keeps-standing : (at : ℕ) (bytes : List ℕ) → Keeps (appendStanding st m at bytes)
+  keeps-standing : (at : ℕ) (bytes : List ℕ) → Keeps st (appendStanding st m at bytes)
   unfolding appendStanding
   keeps-standing at bytes =
-      keeps-cond (headerSound (m .keys) at && goodTail (st .«list_arena») (headerOf (m .keys) at)) _ _
+      keeps-cond st (headerSound (m .keys) at && goodTail (st .«list_arena») (headerOf (m .keys) at)) _ _
       (λ e. keeps-standing-written at bytes (appended bytes (writing (m .lists) (st .«list_arena») (headerOf (m .keys) at))) refl) (λ e. keeps-declined st m 4)
 
   keeps-new-written : (name bytes : List ℕ) (at : ℕ) (a : Arena) → isCrowded st ≡ false → sensible a (length (m .keys)) ≡ true
-      → (x : Option Writing) → appended bytes (writing (m .lists) (st .«list_arena») fresh) ≡ x → Keeps (newWritten x st m name at a)
+      → a .size ≡ st .«key_arena» .size → (x : Option Writing) → appended bytes (writing (m .lists) (st .«list_arena») fresh) ≡ x → Keeps st (newWritten x st m name at a)
   unfolding newWritten Keeps
-  keeps-new-written name bytes at a r k none e s f = keeps-declined st m 7 s f
-  keeps-new-written name bytes at a r k (some v) e s f =
+  keeps-new-written name bytes at a r k u none e s f = keeps-declined st m 7 s f
+  keeps-new-written name bytes at a r k u (some v) e s f =
       let q : movedState (stateGrown st) (st .keys + 1) a (v .arena) ≡ s = cc in
       let G = grown-state st (length (m .table)) g (w .power) in
       let h : ℕ = murmurHash2 (st .seed) name in
       let t : List ℕ = entered (firstOf (stateGrown st)) (stateGrown st .buckets) at h (tableGrown st (m .table)) in
       let n : List ℕ = overwrite at (recordBytes name (v .header)) (m .keys) in
-      subst (λ (r : State). checked r (lent t n (v .memory)) ≡ true) q
-      (left (st .keys + 1) a (v .arena) t n (v .memory) (G .one-more r) k (appended-sensible bytes (writing (m .lists) (st .«list_arena») fresh) v (w .list-arena) e)
+      subst (λ (r : State). Sized st r (lent t n (v .memory))) q
+      (left (st .keys + 1) a (v .arena) t n (v .memory) (G .one-more r) k (appended-sensible bytes (writing (m .lists) (st .«list_arena») fresh) v (w .list-arena) e) u
+      (appended-size bytes (writing (m .lists) (st .«list_arena») fresh) v e)
       (length-entered (firstOf (stateGrown st)) (stateGrown st .buckets) at h (tableGrown st (m .table)) ∙ long-table)
       (length-overwrite at (recordBytes name (v .header)) (m .keys)) (appended-length bytes (writing (m .lists) (st .«list_arena») fresh) v e))
 
-  keeps-room : (name bytes : List ℕ) → isCrowded st ≡ false → (r : Allocated) → roomFor pageSize (st .«key_arena») (length (m .keys)) (length name + recordExtra) ≡ r
-      → Keeps (onKeyRoom r st m name bytes)
+  keeps-room : (name bytes : List ℕ) → isCrowded st ≡ false → (r : Allocated) → roomFor (st .«key_arena») (length (m .keys)) (length name + recordExtra) ≡ r
+      → Keeps st (onKeyRoom r st m name bytes)
   unfolding onKeyRoom
   keeps-room name bytes e (At at a) f =
-      let k = sensible-facts (st .«key_arena») (length (m .keys)) (w .key-arena) in
-      let s = room-standing pageSize (st .«key_arena») (length (m .keys)) (length name + recordExtra) at a (omega arith) (k .stands) f in
-      keeps-new-written name bytes at a e (sensible-made a (length (m .keys)) (record { some-bytes = k .some-bytes; short = k .short; stands = s }))
+      let n = length name + recordExtra in
+      keeps-new-written name bytes at a e (room-sensible (st .«key_arena») (length (m .keys)) n at a (omega arith) (w .key-arena) f)
+      (room-size (st .«key_arena») (length (m .keys)) n at a f)
       (appended bytes (writing (m .lists) (st .«list_arena») fresh)) refl
   keeps-room name bytes e NoRoom f = keeps-declined st m 6
   keeps-room name bytes e (Refused n) f = keeps-declined st m 6
 
-  keeps-new : (name bytes : List ℕ) → Keeps (appendNew st m name bytes)
+  keeps-new : (name bytes : List ℕ) → Keeps st (appendNew st m name bytes)
   unfolding appendNew
   keeps-new name bytes =
-      keeps-cond (isCrowded st) _ _ (λ e. keeps-declined st m 5)
-      (λ e. keeps-room name bytes e (roomFor pageSize (st .«key_arena») (length (m .keys)) (length name + recordExtra)) refl)
+      keeps-cond st (isCrowded st) _ _ (λ e. keeps-declined st m 5)
+      (λ e. keeps-room name bytes e (roomFor (st .«key_arena») (length (m .keys)) (length name + recordExtra)) refl)
 
-  keeps-met : (name bytes : List ℕ) (x : Met) → Keeps (onMet x st m name bytes)
+  keeps-met : (name bytes : List ℕ) (x : Met) → Keeps st (onMet x st m name bytes)
   unfolding onMet
   keeps-met name bytes Damaged = keeps-declined st m 4
   keeps-met name bytes (Standing at) = keeps-standing at bytes
   keeps-met name bytes Empty = keeps-new name bytes
-  keeps-met name bytes Lap = keeps-cond (isSaturated st) _ _ (λ e. keeps-new name bytes) (λ e. keeps-declined st m 4)
+  keeps-met name bytes Lap = keeps-cond st (isSaturated st) _ _ (λ e. keeps-new name bytes) (λ e. keeps-declined st m 4)
 
 -- every accepted append
-pub append-whole : (st : State) (m : Lent) (name bytes : List ℕ) (s : State) → appendOf st m name bytes .answer ≡ Accepted s → checked s (appendOf st m name bytes .memory) ≡ true
-unfolding appendOf Keeps
-append-whole st m name bytes =
-    keeps-cond (checked st m) _ _
-    (λ c. keeps-kind (nameKind st (length name)) _ _ _ (keeps-declined st m 3) (keeps-declined st m 13)
+appended-keeps : (st : State) (m : Lent) (name bytes : List ℕ) → Keeps st (appendOf st m name bytes)
+unfolding appendOf
+appended-keeps st m name bytes =
+    keeps-cond st (checked st m) _ _
+    (λ c. keeps-kind st (nameKind st (length name)) _ _ _ (keeps-declined st m 3) (keeps-declined st m 13)
     (keeps-met st m c name bytes (walkOf st m name .met)))
     (λ e. keeps-declined st m 2)
 
+pub append-whole : (st : State) (m : Lent) (name bytes : List ℕ) (s : State) → appendOf st m name bytes .answer ≡ Accepted s
+    → checked s (appendOf st m name bytes .memory) ≡ true
+unfolding Keeps
+append-whole st m name bytes s e = appended-keeps st m name bytes s e .0
+
+pub append-size : (st : State) (m : Lent) (name bytes : List ℕ) (s : State) → appendOf st m name bytes .answer ≡ Accepted s
+    → s .«key_arena» .size ≡ st .«key_arena» .size
+unfolding Keeps
+append-size st m name bytes s e = appended-keeps st m name bytes s e .1
+
 -- ---- creation
 
-pub create-whole : (capacity seed : ℕ) (table keys lists : List ℕ) (s : State) → createOf capacity seed table (length keys) (length lists) .answer ≡ Made s
-    → checked s (lent (createOf capacity seed table (length keys) (length lists) .table) keys lists) ≡ true
+pub create-whole : (capacity seed size : ℕ) (table keys lists : List ℕ) (s : State) → createOf capacity seed size table (length keys) (length lists) .answer ≡ Made s
+    → checked s (lent (createOf capacity seed size table (length keys) (length lists) .table) keys lists) ≡ true
 unfolding createOf
-create-whole capacity seed table keys lists s = go (creatable capacity (length table) (length keys) (length lists)) refl
+create-whole capacity seed size table keys lists s = go (creatable capacity size (length table) (length keys) (length lists)) refl
   where
-    go : (b : Bool) → creatable capacity (length table) (length keys) (length lists) ≡ b
-        → cond b (Create·out (Made (freshState seed (length table) (length keys) (length lists) (roundedDown capacity))) (cleared 0 (roundedDown capacity) table)) (Create·out (Barred 1) table) .answer ≡ Made s
-        → checked s (lent (cond b (Create·out (Made (freshState seed (length table) (length keys) (length lists) (roundedDown capacity))) (cleared 0 (roundedDown capacity) table)) (Create·out (Barred 1) table) .table) keys lists) ≡ true
+    go : (b : Bool) → creatable capacity size (length table) (length keys) (length lists) ≡ b
+        → cond b (Create·out (Made (freshState seed size (length table) (length keys) (length lists) (roundedDown capacity))) (cleared 0 (roundedDown capacity) table)) (Create·out (Barred 1) table) .answer ≡ Made s
+        → checked s (lent (cond b (Create·out (Made (freshState seed size (length table) (length keys) (length lists) (roundedDown capacity))) (cleared 0 (roundedDown capacity) table)) (Create·out (Barred 1) table) .table) keys lists) ≡ true
     go true c e =
-        let q : freshState seed (length table) (length keys) (length lists) (roundedDown capacity) ≡ s = cc in
-        let f = creatable-facts capacity (length table) (length keys) (length lists) c in
+        let q : freshState seed size (length table) (length keys) (length lists) (roundedDown capacity) ≡ s = cc in
+        let f = creatable-facts capacity size (length table) (length keys) (length lists) c in
         let n = length-cleared 0 (roundedDown capacity) table in
         subst (λ (r : State). checked r (lent (cleared 0 (roundedDown capacity) table) keys lists) ≡ true) q
         (whole-made _ _ _ _ (record {
@@ -224,7 +243,8 @@ create-whole capacity seed table keys lists s = go (creatable capacity (length t
           power = rounded-is-power capacity;
           buckets-le = subst (λ (j : ℕ). roundedDown capacity ≤ j / 2) (sym n) (f .buckets-le);
           keys-le = omega arith;
-          key-arena = unused-sensible (length keys) (f .key-pages);
-          list-arena = unused-sensible (length lists) (f .list-pages);
+          sizes-are = refl;
+          key-arena = unused-sensible size (length keys) (f .sized) (f .key-pages);
+          list-arena = unused-sensible size (length lists) (f .sized) (f .list-pages);
         }))
     go false c e = let z : _≡_ {A = ℕ} 0 1 = cc in absurd (omega arith)

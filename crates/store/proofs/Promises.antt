@@ -23,17 +23,17 @@ use Rattle.store.proofs.Guard.{kind-nameless}
 use Rattle.store.proofs.Cases.{append-13}
 use Rattle.store.proofs.Found.{lookup-nameless}
 use Rattle.store.proofs.Fair.{fair-append, fair-read}
-use Rattle.store.proofs.Kept.{create-whole, append-whole}
+use Rattle.store.proofs.Kept.{create-whole, append-whole, append-size}
 use Rattle.store.proofs.Enters.{append-enters}
 
-create-refused : (capacity seed : ℕ) (table : List ℕ) (keyBytes listBytes n : ℕ)
-    → createOf capacity seed table keyBytes listBytes .answer ≡ Barred n
-    → createOf capacity seed table keyBytes listBytes ≡ creation (Barred 1) table
+create-refused : (capacity seed size : ℕ) (table : List ℕ) (keyBytes listBytes n : ℕ)
+    → createOf capacity seed size table keyBytes listBytes .answer ≡ Barred n
+    → createOf capacity seed size table keyBytes listBytes ≡ creation (Barred 1) table
 unfolding createOf
-create-refused capacity seed table keyBytes listBytes n = go (creatable capacity (length table) keyBytes listBytes)
+create-refused capacity seed size table keyBytes listBytes n = go (creatable capacity size (length table) keyBytes listBytes)
   where
     fresh : State
-    fresh = freshState seed (length table) keyBytes listBytes (roundedDown capacity)
+    fresh = freshState seed size (length table) keyBytes listBytes (roundedDown capacity)
 
     go : (b : Bool)
         → cond b (creation (Made fresh) (cleared 0 (roundedDown capacity) table))
@@ -70,6 +70,7 @@ promises = record {
   read-absent = λ st m name output e. λ i. reading (e i) (fair-read st m name output .kept-absent e i);
   create-whole = create-whole;
   append-whole = append-whole;
+  append-size = append-size;
   append-enters = append-enters;
   nameless-refused = λ st m bytes c. append-13 st m [] bytes c (kind-nameless st 0 refl);
   nameless-absent = nameless-absent;
@@ -77,7 +78,7 @@ promises = record {
 
 pub settled : Settled
 settled = record {
-  create-settled = λ capacity seed table keyBytes listBytes x y p q. one-outcome p q;
+  create-settled = λ capacity seed size table keyBytes listBytes x y p q. one-outcome p q;
   append-settled = λ st m name bytes x y p q. one-outcome p q;
   lookup-settled = λ st m name x y p q. one-outcome p q;
   length-settled = λ st m name x y p q. one-outcome p q;

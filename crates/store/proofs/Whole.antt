@@ -2,12 +2,13 @@
 use Prim.Native.Nat.{ℕ, _+_, _*_, _/_, _%_, _≤_, _<_}
 use mathlib.Core.Path.{_≡_, refl, sym, subst}
 use mathlib.Core.Bool.{Bool, true, false, cond, _&&_}
+use native.Mathlib.Nat.{zero-mul}
 use native.Mathlib.Omega.{arith}
 use mathlib.Core.List.{List}
 use lib.Dec.{leb, ltb, eqb}
 use lib.ListN.{length}
 use borrow.Author.Tests.{le-leb, leb-true, ltb-true, eq-eqb, eqb-true}
-use Rattle.limits.specs.Limits.{pageSize, wordLimit, bucketLimit, arenaLimit}
+use Rattle.limits.specs.Limits.{pageTaken, wordLimit, bucketLimit, arenaLimitFor}
 use Rattle.numbers.proofs.Tests.{both, both-true}
 use Rattle.memory_arena.specs.Pages.{lendable}
 use Rattle.memory_arena.specs.Calls.{sensible}
@@ -19,7 +20,7 @@ use Rattle.store.specs.declared.State.{State}
 use Rattle.store.specs.declared.Created.the-variants.{Made, Barred}
 use Rattle.store.specs.Append.{roomToGrow, isSaturated, grows, grownState, stateGrown}
 use Rattle.store.specs.Create.{out, creatable, unused, freshState, createOf}
-use Rattle.store.specs.State.{lentBuckets, wordsTaken, lengthsEqual, tableFits, wholeState, firstOf}
+use Rattle.store.specs.State.{lentBuckets, wordsTaken, lengthsEqual, tableFits, sizesEqual, wholeState, firstOf}
 
 -- the check, clause by clause
 pub record Whole (st : State) (words keyBytes listBytes : ℕ) : Type 0 where
@@ -30,16 +31,18 @@ pub record Whole (st : State) (words keyBytes listBytes : ℕ) : Type 0 where
   pub power : powerOfTwo (st .buckets) ≡ true
   pub buckets-le : st .buckets ≤ lentBuckets words
   pub keys-le : st .keys ≤ st .buckets
+  pub sizes-are : st .«key_arena» .size ≡ st .«list_arena» .size
   pub key-arena : sensible (st .«key_arena») keyBytes ≡ true
   pub list-arena : sensible (st .«list_arena») listBytes ≡ true
 
 pub whole-facts : (st : State) (words keyBytes listBytes : ℕ) → wholeState st words keyBytes listBytes ≡ true → Whole st words keyBytes listBytes
 unfolding wholeState
 whole-facts st w k l e =
-    let p = both (lengthsEqual st w k l) (wordsTaken w && (tableFits st w && (sensible (st .«key_arena») k && sensible (st .«list_arena») l))) e in
-    let q = both (wordsTaken w) (tableFits st w && (sensible (st .«key_arena») k && sensible (st .«list_arena») l)) (p .1) in
-    let r = both (tableFits st w) (sensible (st .«key_arena») k && sensible (st .«list_arena») l) (q .1) in
-    let s = both (sensible (st .«key_arena») k) (sensible (st .«list_arena») l) (r .1) in
+    let p = both (lengthsEqual st w k l) (wordsTaken w && (tableFits st w && (sizesEqual st && (sensible (st .«key_arena») k && sensible (st .«list_arena») l)))) e in
+    let q = both (wordsTaken w) (tableFits st w && (sizesEqual st && (sensible (st .«key_arena») k && sensible (st .«list_arena») l))) (p .1) in
+    let r = both (tableFits st w) (sizesEqual st && (sensible (st .«key_arena») k && sensible (st .«list_arena») l)) (q .1) in
+    let z = both (sizesEqual st) (sensible (st .«key_arena») k && sensible (st .«list_arena») l) (r .1) in
+    let s = both (sensible (st .«key_arena») k) (sensible (st .«list_arena») l) (z .1) in
     let a = both (eqb (st .words) w && eqb (st .«key_bytes») k) (eqb (st .«list_bytes») l) (p .0) in
     let b = both (eqb (st .words) w) (eqb (st .«key_bytes») k) (a .0) in
     let c = both (powerOfTwo (st .buckets) && leb (st .buckets) (lentBuckets w)) (leb (st .keys) (st .buckets)) (r .0) in
@@ -52,6 +55,7 @@ whole-facts st w k l e =
       power = d .0;
       buckets-le = leb-true _ _ (d .1);
       keys-le = leb-true _ _ (c .1);
+      sizes-are = eqb-true _ _ (z .0);
       key-arena = s .0;
       list-arena = s .1;
     }
@@ -62,7 +66,7 @@ whole-made st w k l h =
     both-true _ _ (both-true _ _ (both-true _ _ (eq-eqb _ _ (h .words-is)) (eq-eqb _ _ (h .key-bytes-is))) (eq-eqb _ _ (h .list-bytes-is)))
     (both-true _ _ (h .taken)
     (both-true _ _ (both-true _ _ (both-true _ _ (h .power) (le-leb _ _ (h .buckets-le))) (le-leb _ _ (h .keys-le)))
-    (both-true _ _ (h .key-arena) (h .list-arena))))
+    (both-true _ _ (eq-eqb _ _ (h .sizes-are)) (both-true _ _ (h .key-arena) (h .list-arena)))))
 
 pub taken-facts : (words : ℕ) → wordsTaken words ≡ true → (words % 2 ≡ 0) × (words ≤ wordLimit)
 taken-facts w e = let p = both (eqb (w % 2) 0) (leb w wordLimit) e in (eqb-true _ _ (p .0), leb-true _ _ (p .1))
@@ -111,39 +115,49 @@ grown-stands st w h = go (grows st) refl
 -- ---- creation
 
 -- what creation takes, clause by clause
-pub record Creatable (capacity words keyBytes listBytes : ℕ) : Type 0 where
+pub record Creatable (capacity size words keyBytes listBytes : ℕ) : Type 0 where
+  pub sized : pageTaken size ≡ true
   pub some : 0 < capacity
-  pub key-pages : lendable arenaLimit keyBytes ≡ true
-  pub list-pages : lendable arenaLimit listBytes ≡ true
+  pub key-pages : lendable (arenaLimitFor size) keyBytes ≡ true
+  pub list-pages : lendable (arenaLimitFor size) listBytes ≡ true
   pub taken : wordsTaken words ≡ true
   pub buckets-le : roundedDown capacity ≤ lentBuckets words
 
-pub creatable-facts : (capacity words keyBytes listBytes : ℕ) → creatable capacity words keyBytes listBytes ≡ true → Creatable capacity words keyBytes listBytes
+pub creatable-facts : (capacity size words keyBytes listBytes : ℕ) → creatable capacity size words keyBytes listBytes ≡ true
+    → Creatable capacity size words keyBytes listBytes
 unfolding creatable
-creatable-facts c w k l e =
-    let p = both (ltb 0 c) (lendable arenaLimit k && (lendable arenaLimit l && (wordsTaken w && leb (roundedDown c) (lentBuckets w)))) e in
-    let q = both (lendable arenaLimit k) (lendable arenaLimit l && (wordsTaken w && leb (roundedDown c) (lentBuckets w))) (p .1) in
-    let r = both (lendable arenaLimit l) (wordsTaken w && leb (roundedDown c) (lentBuckets w)) (q .1) in
+creatable-facts c z w k l e =
+    let y = lendable (arenaLimitFor z) in
+    let o = both (pageTaken z) (ltb 0 c && (y k && (y l && (wordsTaken w && leb (roundedDown c) (lentBuckets w))))) e in
+    let p = both (ltb 0 c) (y k && (y l && (wordsTaken w && leb (roundedDown c) (lentBuckets w)))) (o .1) in
+    let q = both (y k) (y l && (wordsTaken w && leb (roundedDown c) (lentBuckets w))) (p .1) in
+    let r = both (y l) (wordsTaken w && leb (roundedDown c) (lentBuckets w)) (q .1) in
     let s = both (wordsTaken w) (leb (roundedDown c) (lentBuckets w)) (r .1) in
-    record { some = ltb-true _ _ (p .0); key-pages = q .0; list-pages = r .0; taken = s .0; buckets-le = leb-true _ _ (s .1) }
+    record { sized = o .0; some = ltb-true _ _ (p .0); key-pages = q .0; list-pages = r .0; taken = s .0; buckets-le = leb-true _ _ (s .1) }
 
-pub creatable-room : (capacity words keyBytes listBytes : ℕ) → creatable capacity words keyBytes listBytes ≡ true → 2 * (0 + roundedDown capacity) ≤ words
-creatable-room c w k l e = omega (arith, creatable-facts c w k l e .buckets-le)
+pub creatable-room : (capacity size words keyBytes listBytes : ℕ) → creatable capacity size words keyBytes listBytes ≡ true → 2 * (0 + roundedDown capacity) ≤ words
+creatable-room c z w k l e = omega (arith, creatable-facts c z w k l e .buckets-le)
 
 -- an arena with nothing used is a sensible one
-pub unused-sensible : (len : ℕ) → lendable arenaLimit len ≡ true → sensible unused len ≡ true
-unused-sensible len e =
-    let p = both (ltb 0 len) (leb len arenaLimit) e in
+pub unused-sensible : (size len : ℕ) → pageTaken size ≡ true → lendable (arenaLimitFor size) len ≡ true → sensible (unused size) len ≡ true
+unused-sensible s len t e =
+    let p = both (ltb 0 len) (leb len (arenaLimitFor s)) e in
     let z : 0 < len = ltb-true _ _ (p .0) in
-    sensible-made unused len (record { some-bytes = p .0; short = p .1; stands = standing-made pageSize unused len (record { exists = omega arith; in-page = omega arith; in-memory = omega arith }) })
+    sensible-made (unused s) len
+    (record {
+      sized = t;
+      some-bytes = p .0;
+      short = p .1;
+      stands = standing-made (unused s) len (record { exists = rw zero-mul z; in-page = omega arith; in-memory = rw zero-mul (omega arith) });
+    })
 
-pub create-made : (capacity seed : ℕ) (table : List ℕ) (keyBytes listBytes : ℕ) → creatable capacity (length table) keyBytes listBytes ≡ true
-    → createOf capacity seed table keyBytes listBytes
-    ≡ out (Made (freshState seed (length table) keyBytes listBytes (roundedDown capacity))) (cleared 0 (roundedDown capacity) table)
+pub create-made : (capacity seed size : ℕ) (table : List ℕ) (keyBytes listBytes : ℕ) → creatable capacity size (length table) keyBytes listBytes ≡ true
+    → createOf capacity seed size table keyBytes listBytes
+    ≡ out (Made (freshState seed size (length table) keyBytes listBytes (roundedDown capacity))) (cleared 0 (roundedDown capacity) table)
 unfolding createOf
-create-made c s t k l e = rw e
+create-made c s z t k l e = rw e
 
-pub create-barred : (capacity seed : ℕ) (table : List ℕ) (keyBytes listBytes : ℕ) → creatable capacity (length table) keyBytes listBytes ≡ false
-    → createOf capacity seed table keyBytes listBytes ≡ out (Barred 1) table
+pub create-barred : (capacity seed size : ℕ) (table : List ℕ) (keyBytes listBytes : ℕ) → creatable capacity size (length table) keyBytes listBytes ≡ false
+    → createOf capacity seed size table keyBytes listBytes ≡ out (Barred 1) table
 unfolding createOf
-create-barred c s t k l e = rw e
+create-barred c s z t k l e = rw e

@@ -8,7 +8,7 @@ use mathlib.Core.Option.{Option, none, some}
 use mathlib.Core.List.{List, _++_}
 use lib.Dec.{leb}
 use lib.ListN.{length}
-use Rattle.limits.specs.Limits.{pageSize, recordExtra}
+use Rattle.limits.specs.Limits.{recordExtra}
 use Rattle.numbers.specs.LittleEndian.{leBytes}
 use Rattle.spans.specs.Span.{overwrite}
 use Rattle.murmurhash2.specs.Murmur.{murmurHash2}
@@ -158,7 +158,7 @@ unfoldable pub appendNew : State → Lent → List ℕ → List ℕ → Out
 unfolding onKeyRoom roomFor
 appendNew st m name bytes =
     cond (isCrowded st) (declined st m 5)
-    (onKeyRoom (roomFor pageSize (st .«key_arena») (length (m .keys)) (length name + recordExtra)) st m name bytes)
+    (onKeyRoom (roomFor (st .«key_arena») (length (m .keys)) (length name + recordExtra)) st m name bytes)
 
 -- ---- the call
 

@@ -1,5 +1,5 @@
--- A row a case: what each call says in document 01's terms, on a store of 18 words and twice 64 bytes, where all memory
--- held 7s. Each row is worked out from the definitions that the contracts cite.
+-- A row a case: what each call says in document 01's terms, on a store of 18 words and twice 64 bytes in pages of
+-- 65,536, where all memory held 7s. Each row is worked out from the definitions that the contracts cite.
 use Prim.Native.Nat.{ℕ}
 use mathlib.Core.Path.{_≡_, refl}
 use mathlib.Core.List.{List, [], _∷_}
@@ -27,10 +27,10 @@ lane-b = 66 ∷ []
 
 -- the store as created with capacity 1 and seed 0, and after three bytes to lane A
 abbrev start : State
-start = freshState 0 18 64 64 1
+start = freshState 0 65536 18 64 64 1
 
 abbrev lent-at-first : Lent
-lent-at-first = lent (createOf 1 0 (sevens 18) 64 64 .table) (sevens 64) (sevens 64)
+lent-at-first = lent (createOf 1 0 65536 (sevens 18) 64 64 .table) (sevens 64) (sevens 64)
 
 abbrev stateOf : Appended → State
 stateOf (Accepted st) = st
@@ -47,17 +47,18 @@ abbrev broken : Lent
 broken = lent (lent-one .table) (overwrite 0 (255 ∷ 255 ∷ []) (lent-one .keys)) (lent-one .lists)
 
 -- RULES X7.
-pub said-created : (saidCreated (createOf 1 0 (sevens 18) 64 64 .answer) ≡ answered created [])
-    × (saidCreated (createOf 0 0 (sevens 18) 64 64 .answer) ≡ refused 1 [])
+pub said-created : (saidCreated (createOf 1 0 65536 (sevens 18) 64 64 .answer) ≡ answered created [])
+    × (saidCreated (createOf 0 0 65536 (sevens 18) 64 64 .answer) ≡ refused 1 [])
+    × (saidCreated (createOf 1 0 65537 (sevens 18) 64 64 .answer) ≡ refused 1 [])
 unfolding createOf
-said-created = (refl, refl)
+said-created = (refl, refl, refl)
 
 -- RULES X7.
 pub said-looked : (saidLookup (lookupOf one lent-one lane-a) ≡ answered aPlace (0 ∷ []))
     × (saidLookup (lookupOf one lent-one lane-b) ≡ answered absent [])
     × (saidLookup (lookupOf start lent-at-first lane-a) ≡ answered absent [])
     × (saidLookup (lookupOf one (lent [] [] []) lane-a) ≡ refused 2 [])
-    × (saidLookup (lookupOf one lent-one (sevens 65536)) ≡ refused 3 [])
+    × (saidLookup (lookupOf one lent-one (sevens 65519)) ≡ refused 3 [])
     × (saidLookup (lookupOf one lent-one []) ≡ answered absent [])
     × (saidLookup (lookupOf one broken lane-a) ≡ refused 4 [])
 unfolding createOf appendOf lookupOf
@@ -85,16 +86,16 @@ said-listed = (refl, refl, refl, refl, refl)
 
 -- a table of one bucket that has no room to grow, with lane A in it
 abbrev tight : State
-tight = freshState 0 2 64 64 1
+tight = freshState 0 65536 2 64 64 1
 
 abbrev lent-tight : Lent
-lent-tight = lent (createOf 1 0 (sevens 2) 64 64 .table) (sevens 64) (sevens 64)
+lent-tight = lent (createOf 1 0 65536 (sevens 2) 64 64 .table) (sevens 64) (sevens 64)
 
 -- RULES X7. 6 for a record of 46 bytes behind one of 19, in 64; 7 for blocks of 12, 20 and 36 bytes behind one of 12,
 -- in 64
 pub said-appended : (saidAppended (appendOf start lent-at-first lane-a [] .answer) ≡ answered accepted [])
     × (saidAppended (appendOf one (lent [] [] []) lane-a [] .answer) ≡ refused 2 [])
-    × (saidAppended (appendOf one lent-one (sevens 65536) [] .answer) ≡ refused 3 [])
+    × (saidAppended (appendOf one lent-one (sevens 65519) [] .answer) ≡ refused 3 [])
     × (saidAppended (appendOf one lent-one [] [] .answer) ≡ refused 13 [])
     × (saidAppended (appendOf one broken lane-a [] .answer) ≡ refused 4 [])
     × (saidAppended

@@ -6,7 +6,6 @@ use mathlib.Core.Bool.{Bool, cond, _&&_}
 use mathlib.Core.List.{List, []}
 use lib.Dec.{leb}
 use lib.ListN.{length}
-use Rattle.limits.specs.Limits.{pageSize}
 use Rattle.spans.specs.Span.{readSpan, overwrite}
 use Rattle.murmurhash2.specs.Murmur.{murmurHash2}
 use Rattle.memory_arena.specs.declared.Arena.{Arena}
@@ -170,7 +169,7 @@ findBlockOf st m name i = onLookup (lookupOf st m name) (blockAt st m i)
 -- names, shows an empty part".
 unfoldable pub showOf : State → Lent → ℕ → ℕ → List ℕ
 unfolding wholeState goodSpan readSpan
-showOf st m at n = cond (checked st m && goodSpan pageSize (st .«list_arena») at n) (readSpan at n (m .lists)) []
+showOf st m at n = cond (checked st m && goodSpan (st .«list_arena») at n) (readSpan at n (m .lists)) []
 
 -- ---- listing: "the next occupied bucket from i, or none, also where i is L or more"
 

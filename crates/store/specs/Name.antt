@@ -3,14 +3,14 @@
 use Prim.Native.Nat.{ℕ}
 use mathlib.Core.Bool.{cond}
 use lib.Dec.{leb, eqb}
-use Rattle.limits.specs.Limits.{nameLimit}
+use Rattle.limits.specs.Limits.{nameLimitFor}
 use Rattle.store.specs.declared.State.{State}
 use Rattle.store.specs.declared.Name.{Name}
 use Rattle.store.specs.declared.Name.the-variants.{TooLong, Nameless, Proper}
 
--- RULES A5. Bytes of the longest name that a store takes: as many in every store.
+-- RULES A5. Bytes of the longest name that a store takes: what its page size allows.
 abbrev pub nameLimitOf : State → ℕ
-nameLimitOf st = nameLimit
+nameLimitOf st = nameLimitFor (st .«key_arena» .size)
 
 -- RULES V1. What a name of n bytes is to a store.
 unfoldable pub nameKind : State → ℕ → Name

@@ -38,12 +38,12 @@ pub record Entered (st : State) (m : Lent) (name : List ℕ) (st′ : State) (m�
 
 -- ---- the promises
 
--- RULES B7, Q1, V1, X4.
+-- RULES B7, B9, Q1, V1, X4.
 pub record Promises : Type 0 where
   -- "Nothing lent changes on a refusal; the state comes back equal."
-  pub create-refused : (capacity seed : ℕ) (table : List ℕ) (keyBytes listBytes n : ℕ)
-      → createOf capacity seed table keyBytes listBytes .answer ≡ Barred n
-      → createOf capacity seed table keyBytes listBytes ≡ creation (Barred 1) table
+  pub create-refused : (capacity seed size : ℕ) (table : List ℕ) (keyBytes listBytes n : ℕ)
+      → createOf capacity seed size table keyBytes listBytes .answer ≡ Barred n
+      → createOf capacity seed size table keyBytes listBytes ≡ creation (Barred 1) table
   pub append-refused : (st : State) (m : Lent) (name bytes : List ℕ) (st′ : State) (n : ℕ)
       → appendOf st m name bytes .answer ≡ Declined st′ n → appendOf st m name bytes ≡ declined st m n
   pub read-refused : (st : State) (m : Lent) (name output : List ℕ) (n told : ℕ)
@@ -53,11 +53,14 @@ pub record Promises : Type 0 where
       → readOf st m name output .answer ≡ Absent → readOf st m name output ≡ reading Absent output
   -- what an accepted creation or append gives passes the whole-state check, or the next call would be refused for what
   -- this one did
-  pub create-whole : (capacity seed : ℕ) (table keys lists : List ℕ) (st : State)
-      → createOf capacity seed table (length keys) (length lists) .answer ≡ Made st
-      → checked st (lent (createOf capacity seed table (length keys) (length lists) .table) keys lists) ≡ true
+  pub create-whole : (capacity seed size : ℕ) (table keys lists : List ℕ) (st : State)
+      → createOf capacity seed size table (length keys) (length lists) .answer ≡ Made st
+      → checked st (lent (createOf capacity seed size table (length keys) (length lists) .table) keys lists) ≡ true
   pub append-whole : (st : State) (m : Lent) (name bytes : List ℕ) (st′ : State)
       → appendOf st m name bytes .answer ≡ Accepted st′ → checked st′ (appendOf st m name bytes .memory) ≡ true
+  -- document 02, Nine: "The state keeps it", the page size (of both arenas, by the check above)
+  pub append-size : (st : State) (m : Lent) (name bytes : List ℕ) (st′ : State)
+      → appendOf st m name bytes .answer ≡ Accepted st′ → st′ .«key_arena» .size ≡ st .«key_arena» .size
   -- "A new key goes in the first empty bucket of its probe, after any growth": there always is one
   pub append-enters : (st : State) (m : Lent) (name bytes : List ℕ) (st′ : State) → lookupOf st m name ≡ Missing
       → appendOf st m name bytes .answer ≡ Accepted st′ → Entered st m name st′ (appendOf st m name bytes .memory)
@@ -74,9 +77,9 @@ pub record Promises : Type 0 where
 
 -- RULES X8.
 pub record Settled : Type 0 where
-  pub create-settled : (capacity seed : ℕ) (table : List ℕ) (keyBytes listBytes : ℕ) (x y : Creation)
-      → x ≡ createOf capacity seed table keyBytes listBytes → y ≡ createOf capacity seed table keyBytes listBytes
-      → x ≡ y
+  pub create-settled : (capacity seed size : ℕ) (table : List ℕ) (keyBytes listBytes : ℕ) (x y : Creation)
+      → x ≡ createOf capacity seed size table keyBytes listBytes
+      → y ≡ createOf capacity seed size table keyBytes listBytes → x ≡ y
   pub append-settled : (st : State) (m : Lent) (name bytes : List ℕ) (x y : Out)
       → x ≡ appendOf st m name bytes → y ≡ appendOf st m name bytes → x ≡ y
   pub lookup-settled : (st : State) (m : Lent) (name : List ℕ) (x y : Lookup)

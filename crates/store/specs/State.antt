@@ -1,4 +1,5 @@
--- RULES B. Document 01, "Numbers that bound the store": the whole-state check, which comes first in each store call.
+-- RULES B. Document 01, "Numbers that bound the store", and document 02, Nine: the whole-state check, which comes first
+-- in each store call.
 use Prim.Native.Nat.{ℕ, _/_, _%_}
 use mathlib.Core.Bool.{Bool, _&&_}
 use lib.Dec.{leb, eqb}
@@ -24,13 +25,19 @@ lengthsEqual st words keyBytes listBytes = eqb (st .words) words && eqb (st .«k
 abbrev pub tableFits : State → ℕ → Bool
 tableFits st words = powerOfTwo (st .buckets) && leb (st .buckets) (lentBuckets words) && leb (st .keys) (st .buckets)
 
+-- RULES B9. Both arenas keep the store's page size.
+abbrev pub sizesEqual : State → Bool
+sizesEqual st = eqb (st .«key_arena» .size) (st .«list_arena» .size)
+
 -- RULES B2. "... and are such as creation takes ..., current page exists, used at most that page's capacity": of each
 -- arena.
 unfoldable pub wholeState : State → ℕ → ℕ → ℕ → Bool
 unfolding powerOfTwo sensible
 wholeState st words keyBytes listBytes =
     lengthsEqual st words keyBytes listBytes
-    && (wordsTaken words && (tableFits st words && (sensible (st .«key_arena») keyBytes && sensible (st .«list_arena») listBytes)))
+    && (wordsTaken words
+    && (tableFits st words
+    && (sizesEqual st && (sensible (st .«key_arena») keyBytes && sensible (st .«list_arena») listBytes))))
 
 -- RULES M3. The first bucket of the standing table.
 abbrev pub firstOf : State → ℕ

@@ -18,7 +18,7 @@ ghost use Prim.Native.Nat.{_+_, _≤_, _/_};
 ghost use lib.ListN.{length};
 ghost use Rattle.shared_arena_hashmap.specs.Probe.{valuePlace};
 ghost use Rattle.store.specs.State.{firstOf};
-ghost use Rattle.store.specs.Name.{nameKind};
+ghost use Rattle.store.specs.Name.{nameLimitOf, nameKind};
 ghost use Rattle.store.specs.Look.{lent, checked, walkOf, headOf};
 
 // What the store remembers between calls (document 01, "Numbers that bound the store").
@@ -32,6 +32,7 @@ pub struct State {
     pub buckets: usize,
     pub back: bool,
     pub keys: usize,
+    // each arena's current page and the bytes used there; both keep the page size, which is one
     pub key_arena: Arena,
     pub list_arena: Arena,
 }
@@ -110,11 +111,27 @@ pub fn first_bucket(st: State) -> usize
     0
 }
 
+// Bytes of the longest name that the store takes: a longer one's record exceeds a page, or its length two bytes.
+fn name_limit(st: State) -> usize
+    ensures { λ r. ⌜ r ≡ nameLimitOf st ⌝ }
+{
+    let arena = st.key_arena;
+    let size = arena.size;
+    if size < limits::RECORD_EXTRA {
+        return 0;
+    }
+    if size < limits::NAME_LIMIT + limits::RECORD_EXTRA {
+        return size - limits::RECORD_EXTRA;
+    }
+    limits::NAME_LIMIT
+}
+
 // The guard of names, which every call by name asks before it looks anything up.
 fn name_kind(st: State, n: usize) -> Name
     ensures { λ r. ⌜ r ≡ nameKind st n ⌝ }
 {
-    if limits::NAME_LIMIT < n {
+    let limit = name_limit(st);
+    if limit < n {
         return Name::TooLong;
     }
     if n == 0 {

@@ -22,6 +22,7 @@ ghost use Rattle.expull.specs.Header.{fresh};
 ghost use Rattle.expull.specs.Append.{writing, appended};
 ghost use Rattle.store.specs.Said.{saidAppended};
 ghost use Rattle.store.specs.State.{firstOf};
+ghost use Rattle.store.specs.Name.{nameLimitOf};
 ghost use Rattle.store.specs.Look.{lent, checked, walkOf};
 ghost use Rattle.store.specs.Append.{out, roomToGrow, isSaturated, isCrowded, grownState, stateGrown, tableGrown, movedState, appendStanding, Planned, standingWritten, recordBytes, newWritten, appendNew, onMet, appendOf};
 
@@ -204,7 +205,8 @@ fn append_new(
     name: &[u8],
     bytes: &[u8],
 ) -> Appended
-    requires { ⌜ (checked st (lent (now table) (now keys) (now lists)) ≡ true) × (length (now name) ≤ nameLimit) ⌝ }
+    requires { ⌜ (checked st (lent (now table) (now keys) (now lists)) ≡ true)
+        × (length (now name) ≤ nameLimitOf st) ⌝ }
     ensures { λ r. ⌜ out r (lent (now (table .exit)) (now (keys .exit)) (now (lists .exit))) ≡ appendNew st (lent (now (table .entry)) (now (keys .entry)) (now (lists .entry))) (now (name .entry)) (now (bytes .entry)) ⌝ }
 {
     if is_crowded(st) {
@@ -232,7 +234,8 @@ fn append_after_lap(
     name: &[u8],
     bytes: &[u8],
 ) -> Appended
-    requires { ⌜ (checked st (lent (now table) (now keys) (now lists)) ≡ true) × (length (now name) ≤ nameLimit) ⌝ }
+    requires { ⌜ (checked st (lent (now table) (now keys) (now lists)) ≡ true)
+        × (length (now name) ≤ nameLimitOf st) ⌝ }
     ensures { λ r. ⌜ out r (lent (now (table .exit)) (now (keys .exit)) (now (lists .exit))) ≡ onMet Met.Lap st (lent (now (table .entry)) (now (keys .entry)) (now (lists .entry))) (now (name .entry)) (now (bytes .entry)) ⌝ }
 {
     if is_saturated(st) {
@@ -250,7 +253,8 @@ fn append_proper(
     name: &[u8],
     bytes: &[u8],
 ) -> Appended
-    requires { ⌜ (checked st (lent (now table) (now keys) (now lists)) ≡ true) × (length (now name) ≤ nameLimit) ⌝ }
+    requires { ⌜ (checked st (lent (now table) (now keys) (now lists)) ≡ true)
+        × (length (now name) ≤ nameLimitOf st) ⌝ }
     ensures { λ r. ⌜ out r (lent (now (table .exit)) (now (keys .exit)) (now (lists .exit)))
         ≡ onMet
         (walkOf st (lent (now (table .entry)) (now (keys .entry)) (now (lists .entry))) (now (name .entry)) .met)

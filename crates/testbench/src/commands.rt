@@ -4,8 +4,8 @@ use script::rows;
 // A row a command: its number, then how it is written. The tens of the number say whose `play` has its arm: 1
 // bench_write, 2 bench_read, 3 bench_state, 4 bench_areas, 5 bench_lower, 6 bench_report, 7 bench_readings, 8
 // bench_pieces, 9 bench_check; those below 10 are this program's.
-const TABLE: [u8; 656] = *b"1 lend WORDS KEYBYTES LISTBYTES HH
-10 create CAPACITY SEED
+const TABLE: [u8; 684] = *b"1 lend WORDS KEYBYTES LISTBYTES HH
+10 create CAPACITY SEED [SIZE]
 11 append NAME BYTES
 20 lookup NAME
 21 length NAME
@@ -24,9 +24,9 @@ const TABLE: [u8; 656] = *b"1 lend WORDS KEYBYTES LISTBYTES HH
 52 unvint BYTES
 53 equal A B
 54 copy A B
-55 allocate PAGE USED LENGTH N
-56 get PAGE USED LENGTH PLACE N
-57 put PAGE USED LENGTH PLACE BYTES
+55 allocate PAGE USED LENGTH N [SIZE]
+56 get PAGE USED LENGTH PLACE N [SIZE]
+57 put PAGE USED LENGTH PLACE BYTES [SIZE]
 2 help
 60 report ROOM
 61 unreport BYTES

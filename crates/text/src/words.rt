@@ -109,6 +109,17 @@ pub fn number_at(line: &[u8], k: usize) -> Number {
     decimal(word(line, k))
 }
 
+// Word k of a line as a number; `otherwise` where the line ends before it.
+pub fn number_or(line: &[u8], k: usize, otherwise: u64) -> Number {
+    if crate::scan::tally(line, b' ') < k {
+        return Number {
+            value: otherwise,
+            fault: 0,
+        };
+    }
+    number_at(line, k)
+}
+
 // Number k of a line, if it is among the first n that are asked for.
 fn asked(line: &[u8], k: usize, n: usize) -> Number {
     if n < k {

@@ -7,10 +7,10 @@ use Rattle.bench_state.proofs.hash_at.Statement.{statement}
 use Rattle.bench_state.proofs.hash_at.Tie as tie
 
 abbrev Inv-loop : tie.InvT-loop
-Inv-loop st into₀ k₀ into k = (k ≤ 11) × (length into ≡ length into₀)
+Inv-loop st into₀ k₀ into k = (k ≤ 12) × (length into ≡ length into₀)
 
 abbrev μ-loop : tie.MeasureT-loop
-μ-loop st into₀ k₀ into k = 11 - k
+μ-loop st into₀ k₀ into k = 12 - k
 
 pub hash-at-spec : {M : Type 1} → statement M
 hash-at-spec =

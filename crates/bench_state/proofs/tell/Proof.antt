@@ -5,10 +5,10 @@ use Rattle.bench_state.proofs.tell.Statement.{statement}
 use Rattle.bench_state.proofs.tell.Tie as tie
 
 abbrev Inv-loop : tie.InvT-loop
-Inv-loop st k₀ k = k ≤ 11
+Inv-loop st k₀ k = k ≤ 12
 
 abbrev μ-loop : tie.MeasureT-loop
-μ-loop st k₀ k = 11 - k
+μ-loop st k₀ k = 12 - k
 
 pub tell-spec : {M : Type 1} → statement M
 tell-spec =

@@ -24,7 +24,7 @@ returns : tie.Need-returns
 returns c =
     let a = c .before .before .before .before .before .before .before .before .before .before .before .before .args in
     let d = c .before .before .before .before .before .before .create in
-    ap (λ (t : List ℕ). (d .last .1 .1 .0, t)) (c .before .before .tell-created .ensures)
+    ap (λ (t : List ℕ). (d .last .1 .1 .1 .0, t)) (c .before .before .tell-created .ensures)
     ∙ ap (λ (o : Out). createTold o (a .told .now)) (d .ensures .0)
 
 pub edge-create-spec : {M : Type 1} → statement M

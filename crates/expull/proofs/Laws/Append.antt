@@ -10,7 +10,7 @@ use native.Mathlib.Omega.{arith}
 use lib.Dec.{eqb, eqb·suc-zero}
 use lib.ListN.{length, length-append}
 use borrow.Author.Tests.{eq-eqb, ne-eqb, eqb-true, eqb-false, leb-true}
-use Rattle.limits.specs.Limits.{nullAddress, pageSize, arenaLimit, freshNumber, linkSize}
+use Rattle.limits.specs.Limits.{nullAddress, arenaLimit, freshNumber, linkSize}
 use Rattle.numbers.specs.LittleEndian.{leBytes}
 use Rattle.spans.specs.Span.{overwrite}
 use Rattle.spans.proofs.Laws.{length-overwrite, overwrite-append, overwrite-none}
@@ -20,7 +20,7 @@ use Rattle.memory_arena.specs.declared.Allocated.the-variants.{At, NoRoom, Refu
 use Rattle.memory_arena.specs.Address.{addressOf, pageOf, placeOf}
 use Rattle.memory_arena.specs.Pages.{standing, roomFor, goodSpan}
 use Rattle.memory_arena.specs.Calls.{sensible}
-use Rattle.memory_arena.proofs.Laws.{split, place-of, standing-facts, good-end, good-in, good-page, good-below, room-facts, room-in, room-standing, sensible-facts, sensible-made}
+use Rattle.memory_arena.proofs.Laws.{split, place-of, standing-facts, good-end, good-in, good-page, good-below, room-facts, room-in, room-size, room-sensible, sensible-facts, sensible-short}
 use Rattle.expull.specs.declared.Header.{Header}
 use Rattle.expull.specs.Header.{blockSize, soundHeader, blockCount, takenBytes}
 use Rattle.expull.specs.Append.{Writing, nextWide, headWith, linked, headerWith, withBlock, onRoom, takeBlock, ready, moved, filled, andThen, appended, onRoomDry, planned, planOf, isSome, goodTail}
@@ -66,11 +66,11 @@ block-room at a w = size-pos (w .header .number + 1)
 
 -- what holds of the list as it is, and with a block taken, holds of it once it is ready
 pub ready-cases : (P : Writing → Type 0) (w v : Writing) → (0 < w .header .remaining → P w)
-    → ((at : ℕ) (a : Arena) → roomFor pageSize (w .arena) (length (w .memory)) (nextWide (w .header)) ≡ At at a → P (withBlock at a w))
+    → ((at : ℕ) (a : Arena) → roomFor (w .arena) (length (w .memory)) (nextWide (w .header)) ≡ At at a → P (withBlock at a w))
     → ready w ≡ some v → P v
 ready-cases P w v f g e = go (eqb (w .header .remaining) 0) refl
   where
-    room : (r : Allocated) → roomFor pageSize (w .arena) (length (w .memory)) (nextWide (w .header)) ≡ r → onRoom r w ≡ some v → P v
+    room : (r : Allocated) → roomFor (w .arena) (length (w .memory)) (nextWide (w .header)) ≡ r → onRoom r w ≡ some v → P v
     room (At at a) p q = subst P (same-some _ _ q) (g at a p)
     room NoRoom p q = never _ q
     room (Refused n) p q = never _ q
@@ -131,7 +131,7 @@ appended-ready (b ∷ bs) w h = go (eqb (w .header .remaining) 0) refl
     room (Refused n) = refl
 
     go : (t : Bool) → eqb (w .header .remaining) 0 ≡ t → appended (b ∷ bs) w ≡ andThen (ready w) (appended (b ∷ bs))
-    go true e = rw (ready-taken w (eqb-true _ _ e)) (room (roomFor pageSize (w .arena) (length (w .memory)) (nextWide (w .header))))
+    go true e = rw (ready-taken w (eqb-true _ _ e)) (room (roomFor (w .arena) (length (w .memory)) (nextWide (w .header))))
     go false e =
         let z = eqb-false (w .header .remaining) 0 e in
         sym (ap (λ (o : Option Writing). andThen o (appended (b ∷ bs))) (ready-kept w (omega (arith, z))))
@@ -155,19 +155,19 @@ plan-turns (suc t) (suc u) len a b zero h k = refl
 plan-turns (suc t) (suc u) len a b (suc n) h k =
     let z = size-pos (b + 1) in
     rw (eqb·suc-zero n)
-    (on-same (roomFor pageSize a len (blockSize (b + 1) + linkSize)) _ _
+    (on-same (roomFor a len (blockSize (b + 1) + linkSize)) _ _
     (λ c. plan-turns t u len c (b + 1) (suc n - blockSize (b + 1)) (omega arith) (omega arith)))
 
 -- a turn of the plan, and its end
 pub plan-turn : (len : ℕ) (a : Arena) (b n : ℕ) → 0 < n
     → planned n len a b n
-    ≡ onRoomDry (roomFor pageSize a len (blockSize (b + 1) + linkSize)) (λ c. planned (n - blockSize (b + 1)) len c (b + 1) (n - blockSize (b + 1)))
+    ≡ onRoomDry (roomFor a len (blockSize (b + 1) + linkSize)) (λ c. planned (n - blockSize (b + 1)) len c (b + 1) (n - blockSize (b + 1)))
 unfolding planned
 plan-turn len a b zero h = absurd (omega arith)
 plan-turn len a b (suc n) h =
     let z = size-pos (b + 1) in
     rw (eqb·suc-zero n)
-    (on-same (roomFor pageSize a len (blockSize (b + 1) + linkSize)) _ _
+    (on-same (roomFor a len (blockSize (b + 1) + linkSize)) _ _
     (λ c. plan-turns n (suc n - blockSize (b + 1)) len c (b + 1) (suc n - blockSize (b + 1)) (omega arith) (omega arith)))
 
 pub plan-end : (len : ℕ) (a : Arena) (b : ℕ) → planned 0 len a b 0 ≡ some a
@@ -221,7 +221,7 @@ plan-decides (b ∷ bs) w =
         let z : w .header .remaining ≡ 0 = eqb-true _ _ e in
         let n : suc (length bs) - w .header .remaining ≡ suc (length bs) = omega arith in
         rw (n, ready-taken w z)
-        (room (roomFor pageSize (w .arena) (length (w .memory)) (nextWide (w .header))) h
+        (room (roomFor (w .arena) (length (w .memory)) (nextWide (w .header))) h
         ∙ sym (plan-turn (length (w .memory)) (w .arena) (w .header .number) (suc (length bs)) (omega arith)))
     go false e h =
         let z = eqb-false (w .header .remaining) 0 e in
@@ -247,7 +247,7 @@ fits-plan bs w v e = sym (plan-decides bs w) ∙ ap arenaOf e
 
 -- the used end of an arena
 abbrev pub endOf : Arena → ℕ
-endOf a = a .page * pageSize + a .used
+endOf a = a .page * a .size + a .used
 
 -- what an append needs of a list at work
 pub record Working (w : Writing) : Type 0 where
@@ -269,42 +269,38 @@ pub onward-then : (w v u : Writing) → Onward w v → Onward v u → Onward w u
 onward-then w v u p q = record { long = q .long ∙ p .long; number-up = omega arith; end-up = omega arith; taken-up = omega arith }
 
 -- the tail of a list with blocks, with what remains and the link, lies in the memory
-pub tail-good : (a : Arena) (h : Header) → goodTail a h ≡ true → (h .number ≡ freshNumber → ⊥) → goodSpan pageSize a (h .tail) (h .remaining + linkSize) ≡ true
+pub tail-good : (a : Arena) (h : Header) → goodTail a h ≡ true → (h .number ≡ freshNumber → ⊥) → goodSpan a (h .tail) (h .remaining + linkSize) ≡ true
 unfolding goodTail
 tail-good a h e n = rw (ne-eqb (h .number) freshNumber n) at e
 
-pub tail-made : (a : Arena) (h : Header) → goodSpan pageSize a (h .tail) (h .remaining + linkSize) ≡ true → goodTail a h ≡ true
+pub tail-made : (a : Arena) (h : Header) → goodSpan a (h .tail) (h .remaining + linkSize) ≡ true → goodTail a h ≡ true
 unfolding goodTail
 tail-made a h e = go (eqb (h .number) freshNumber)
   where
-    go : (t : Bool) → cond t true (goodSpan pageSize a (h .tail) (h .remaining + linkSize)) ≡ true
+    go : (t : Bool) → cond t true (goodSpan a (h .tail) (h .remaining + linkSize)) ≡ true
     go true = refl
     go false = e
 
 pub tail-in : (a : Arena) (len : ℕ) (h : Header) → sensible a len ≡ true → goodTail a h ≡ true → (h .number ≡ freshNumber → ⊥)
     → h .tail + (h .remaining + linkSize) ≤ len
-tail-in a len h s t n = good-in pageSize a (h .tail) (h .remaining + linkSize) len (sensible-facts a len s .stands) (tail-good a h t n)
+tail-in a len h s t n = good-in a (h .tail) (h .remaining + linkSize) len (sensible-facts a len s .stands) (tail-good a h t n)
 
 -- a span's later part is good too
-good-later : (s : ℕ) (a : Arena) (at n k len : ℕ) → k < n → standing s a len ≡ true → goodSpan s a at n ≡ true → goodSpan s a (at + k) (n - k) ≡ true
-good-later s a at n k len h e f =
-    let p : placeOf s at + n ≤ s = good-page s a at n len e f in
+good-later : (a : Arena) (at n k len : ℕ) → k < n → standing a len ≡ true → goodSpan a at n ≡ true → goodSpan a (at + k) (n - k) ≡ true
+good-later a at n k len h e f =
+    let s = a .size in
+    let p : placeOf s at + n ≤ s = good-page a at n len e f in
     let q : at + k ≡ addressOf s (pageOf s at) (placeOf s at + k) = omega (arith, split s at) in
     let r : placeOf s (at + k) ≡ placeOf s at + k = ap (placeOf s) q ∙ place-of s (pageOf s at) (placeOf s at + k) (omega arith) in
-    good-below s a (at + k) (n - k) (omega arith) (omega arith) (omega (arith, good-end s a at n len e f)) (standing-facts s a len e .in-page)
+    good-below a (at + k) (n - k) (omega arith) (omega arith) (omega (arith, good-end a at n len e f)) (standing-facts a len e .in-page)
 
 -- the span that an allocation gives is good in the arena after it
-room-good : (s : ℕ) (a : Arena) (len n at : ℕ) (b : Arena) → 0 < n → standing s a len ≡ true → roomFor s a len n ≡ At at b → goodSpan s b at n ≡ true
-room-good s a len n at b z e f =
-    let r = room-facts s a len n at b z e f in
+room-good : (a : Arena) (len n at : ℕ) (b : Arena) → 0 < n → standing a len ≡ true → roomFor a len n ≡ At at b → goodSpan b at n ≡ true
+room-good a len n at b z e f =
+    let s = b .size in
+    let r = room-facts a len n at b z e f in
     let p : placeOf s at ≡ b .used - n = ap (placeOf s) (r .page-on) ∙ place-of s (b .page) (b .used - n) (omega (arith, r .after .in-page, r .wide)) in
-    good-below s b at n z (omega (arith, p, r .wide, r .after .in-page)) (omega (arith, r .end)) (r .after .in-page)
-
--- an arena stays sensible over an allocation
-pub room-sensible : (a : Arena) (len n at : ℕ) (b : Arena) → 0 < n → sensible a len ≡ true → roomFor pageSize a len n ≡ At at b → sensible b len ≡ true
-room-sensible a len n at b z e f =
-    let s = sensible-facts a len e in
-    sensible-made b len (record { some-bytes = s .some-bytes; short = s .short; stands = room-standing pageSize a len n at b z (s .stands) f })
+    good-below b at n z (omega (arith, p, r .wide, r .after .in-page)) (omega (arith, r .end)) (r .after .in-page)
 
 -- a list at work, some steps on
 pub record Reached (w v : Writing) : Type 0 where
@@ -315,11 +311,11 @@ pub reached-then : (w v u : Writing) → Reached w v → Reached v u → Reached
 reached-then w v u p q = record { working = q .working; onward = onward-then w v u (p .onward) (q .onward) }
 
 -- the address of a new block isn't null
-room-known : (a : Arena) (len n at : ℕ) (b : Arena) → 0 < n → sensible a len ≡ true → roomFor pageSize a len n ≡ At at b → at ≡ nullAddress → ⊥
+room-known : (a : Arena) (len n at : ℕ) (b : Arena) → 0 < n → sensible a len ≡ true → roomFor a len n ≡ At at b → at ≡ nullAddress → ⊥
 room-known a len n at b z e f q =
     let s = sensible-facts a len e in
-    let l : len ≤ arenaLimit = leb-true _ _ (s .short) in
-    omega (arith, room-in pageSize a len n at b z (s .stands) f)
+    let l : len ≤ arenaLimit = sensible-short a len e in
+    omega (arith, room-in a len n at b z (s .stands) f)
 
 head-known : (at : ℕ) (h : Header) → Shape h → (at ≡ nullAddress → ⊥) → headWith at h ≡ nullAddress → ⊥
 head-known at h k n = go (eqb (h .number) freshNumber) refl
@@ -330,7 +326,7 @@ head-known at h k n = go (eqb (h .number) freshNumber) refl
 
 -- a block taken
 pub taken-reached : (w : Writing) (at : ℕ) (b : Arena) → Working w
-    → roomFor pageSize (w .arena) (length (w .memory)) (nextWide (w .header)) ≡ At at b → Reached w (withBlock at b w)
+    → roomFor (w .arena) (length (w .memory)) (nextWide (w .header)) ≡ At at b → Reached w (withBlock at b w)
 unfolding headerWith
 taken-reached w at b k f =
     let h = w .header in
@@ -338,7 +334,7 @@ taken-reached w at b k f =
     let n = nextWide h in
     let s = sensible-facts (w .arena) len (k .sense) in
     let z : 0 < n = omega arith in
-    let r = room-facts pageSize (w .arena) len n at b z (s .stands) f in
+    let r = room-facts (w .arena) len n at b z (s .stands) f in
     let l : length (linked at h (w .memory)) ≡ len = length-linked at h (w .memory) in
     record {
       working = record {
@@ -349,7 +345,7 @@ taken-reached w at b k f =
           with-head = λ e. head-known at h (k .shape) (room-known (w .arena) len n at b z (k .sense) f);
           within = omega arith;
         };
-        tail = tail-made b (headerWith at h) (room-good pageSize (w .arena) len n at b z (s .stands) f);
+        tail = tail-made b (headerWith at h) (room-good (w .arena) len n at b z (s .stands) f);
       };
       onward = record {
         long = l;
@@ -384,7 +380,7 @@ filled-reached bs w k z l =
         shape = record { from = k .shape .from; without = λ e. absurd (n e); with-head = k .shape .with-head; within = omega (arith, k .shape .within) };
         tail =
             tail-made (w .arena) (moved (length bs) h)
-            (rw r at (good-later pageSize (w .arena) (h .tail) (h .remaining + linkSize) (length bs) len (omega arith)
+            (rw r at (good-later (w .arena) (h .tail) (h .remaining + linkSize) (length bs) len (omega arith)
             (sensible-facts (w .arena) len (k .sense) .stands) (tail-good (w .arena) h (k .tail) n)));
       };
       onward = record { long = m; number-up = omega arith; end-up = omega arith; taken-up = omega arith };
@@ -424,6 +420,16 @@ appended-sensible bs w v s e =
     rw length-filled
     (ready-cases (λ y. sensible (y .arena) (length (y .memory)) ≡ true) u x (λ h. k)
     (λ at a f. rw length-linked (room-sensible (u .arena) (length (u .memory)) (nextWide (u .header)) at a (omega arith) k f)) r)) bs w v s e)
+
+-- and its pages keep their size
+pub appended-size : (bs : List ℕ) (w v : Writing) → appended bs w ≡ some v → v .arena .size ≡ w .arena .size
+unfolding filled
+appended-size bs w v e =
+    appended-keeps (λ u. u .arena .size ≡ w .arena .size)
+    (λ u x b k r.
+    ready-cases (λ y. y .arena .size ≡ u .arena .size) u x (λ h. refl)
+    (λ at a f. room-size (u .arena) (length (u .memory)) (nextWide (u .header)) at a f) r
+    ∙ k) bs w v refl e
 
 -- from what a store has checked to what it may rely on
 pub working-made : (w : Writing) → sensible (w .arena) (length (w .memory)) ≡ true → soundHeader (w .header) 0 ≡ true → goodTail (w .arena) (w .header) ≡ true

@@ -8,7 +8,7 @@ use native.Mathlib.Omega.{arith}
 use lib.Dec.{eqb}
 use lib.ListN.{length, length-append}
 use borrow.Author.Tests.{le-leb, lt-leb, eqb-true, eqb-false, eq-eqb, ne-eqb}
-use Rattle.limits.specs.Limits.{pageSize, freshNumber, linkSize}
+use Rattle.limits.specs.Limits.{freshNumber, linkSize}
 use Rattle.numbers.specs.LittleEndian.{leNumber}
 use Rattle.numbers.proofs.Tests.{both, not-both}
 use Rattle.spans.specs.Span.{readSpan}
@@ -28,7 +28,7 @@ use Rattle.expull.proofs.Laws.Header.{sound-facts, full-more, length-no
 
 -- the test at block i
 abbrev pub goodBlock : Arena → List ℕ → ℕ → ℕ → Bool
-goodBlock a m head i = goodSpan pageSize a (blockPlace m head i) (blockSize (i + 3) + linkSize)
+goodBlock a m head i = goodSpan a (blockPlace m head i) (blockSize (i + 3) + linkSize)
 
 pub blocks-more : (a : Arena) (m : List ℕ) (head k : ℕ) → goodBlocks a m head (suc k) ≡ (goodBlocks a m head k && goodBlock a m head k)
 unfolding goodBlocks
@@ -64,7 +64,7 @@ bad-block-stays a m head i k h e = go (goodBlocks a m head k) refl
 -- a good block lies in the memory, with its link
 pub block-in : (a : Arena) (m : List ℕ) (head i : ℕ) → sensible a (length m) ≡ true → goodBlock a m head i ≡ true
     → blockPlace m head i + (blockSize (i + 3) + linkSize) ≤ length m
-block-in a m head i s e = good-in pageSize a (blockPlace m head i) (blockSize (i + 3) + linkSize) (length m) (sensible-facts a (length m) s .stands) e
+block-in a m head i s e = good-in a (blockPlace m head i) (blockSize (i + 3) + linkSize) (length m) (sensible-facts a (length m) s .stands) e
 
 -- ---- lengths
 
@@ -156,7 +156,7 @@ find-at a m h i l e = rw (lt-leb (blockCount h) i l, add-one i, e)
 
 -- the blocks before i are good: the test of block i decides
 pub blocks-end : (a : Arena) (m : List ℕ) (head i place size : ℕ) (t u : Bool) → walkOf a m head i ≡ To place → size ≡ blockSize (i + 3)
-    → t ≡ goodSpan pageSize a place (size + linkSize) → t ≡ u → goodBlocks a m head (suc i) ≡ u
+    → t ≡ goodSpan a place (size + linkSize) → t ≡ u → goodBlocks a m head (suc i) ≡ u
 blocks-end a m head i place size t u w e f g =
     let k = walk-true a m head i place w in
     blocks-more a m head i ∙ rw (k .0) (sym (f ∙ rw (k .1, e)) ∙ g)

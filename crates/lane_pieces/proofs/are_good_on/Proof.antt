@@ -7,6 +7,7 @@ use borrow.Author.Needs.{needs}
 use borrow.Author.Tests.{not-true, not-false}
 use lib.ListN.{length}
 use Rattle.limits.specs.Limits.{linkSize}
+use Rattle.memory_arena.proofs.Laws.{sensible-facts}
 use Rattle.lane_pieces.proofs.Loops.{Testing, testing-stop, testing-next, testing-end, testing-in}
 use Rattle.lane_pieces.proofs.are_good_on.Statement.{statement}
 use Rattle.lane_pieces.proofs.are_good_on.Tie as tie
@@ -48,7 +49,7 @@ add-is-good-span : tie.Need-add-is-good-span Inv-loop μ-loop
 add-is-good-span c = search needs
 
 is-good-span-requires : tie.Need-is-good-span-requires Inv-loop μ-loop
-is-good-span-requires c κs = search needs
+is-good-span-requires c κs = sensible-facts _ _ (c .before .before .before .before .pre .0) .sized
 
 returns : tie.Need-returns Inv-loop μ-loop
 returns c =

@@ -1,7 +1,7 @@
 -- The state check, then the span. Assumes nothing.
 use mathlib.Core.Path.{sym, _∙_}
 use borrow.Author.Needs.{needs}
-use Rattle.memory_arena.proofs.Laws.{reach-good, reach-none}
+use Rattle.memory_arena.proofs.Laws.{sensible-facts, reach-good, reach-none}
 use Rattle.memory_arena.proofs.is_reachable.Statement.{statement}
 use Rattle.memory_arena.proofs.is_reachable.Tie as tie
 
@@ -9,7 +9,9 @@ is-sensible-requires : tie.Need-is-sensible-requires
 is-sensible-requires c κs = search needs
 
 is-good-span-requires : tie.Need-is-good-span-requires
-is-good-span-requires c κs = search needs
+is-good-span-requires c κs =
+    let a = c .before .before .args in
+    sensible-facts (a .arena) (a .len) (sym (c .before .is-sensible .ensures) ∙ c .if1 .taken) .sized
 
 returns : tie.Need-returns
 returns c =

@@ -32,11 +32,11 @@ returns c =
     let d = c .before .before .before .before .create in
     let g = c .enum-told .given in
     let m : Lent = lent (a .table .now) (a .keys .now) (a .lists .now) in
-    let left : Lent = lent (d .last .1 .1 .0) (a .keys .now) (a .lists .now) in
-    subst (λ (r : Created). (out r left ≡ replayOf (a .capacity) (a .seed) m (a .script .now))
-    × Replayed (a .capacity) (a .seed) m (a .script .now) r left) (sym (g .1))
-    (replay-barred (a .capacity) (a .seed) m (a .script .now) (g .0 .0) (d .last .1 .1 .0)
-    (ap (λ (r : Created). Create·out r (d .last .1 .1 .0)) (sym (g .1)) ∙ d .ensures .0))
+    let left : Lent = lent (d .last .1 .1 .1 .0) (a .keys .now) (a .lists .now) in
+    subst (λ (r : Created). (out r left ≡ replayOf (a .capacity) (a .seed) (a .size) m (a .script .now))
+    × Replayed (a .capacity) (a .seed) (a .size) m (a .script .now) r left) (sym (g .1))
+    (replay-barred (a .capacity) (a .seed) (a .size) m (a .script .now) (g .0 .0) (d .last .1 .1 .1 .0)
+    (ap (λ (r : Created). Create·out r (d .last .1 .1 .1 .0)) (sym (g .1)) ∙ d .ensures .0))
 
 play-script-requires : tie.Need-play-script-requires
 play-script-requires c κs = search needs
@@ -57,9 +57,9 @@ returns-2 c =
     let g = c .before .before .before .before .before .before .before .before .before .before .before .made .given in
     let p = c .before .before .before .before .before .before .play-script in
     let m : Lent = lent (a .table .now) (a .keys .now) (a .lists .now) in
-    replay-made (a .capacity) (a .seed) m (a .script .now) (g .0 .0) (d .last .1 .1 .0) (p .result)
+    replay-made (a .capacity) (a .seed) (a .size) m (a .script .now) (g .0 .0) (d .last .1 .1 .1 .0) (p .result)
     (lent (p .last .1 .0) (p .last .1 .1 .0) (p .last .1 .1 .1 .0))
-    (ap (λ (r : Created). Create·out r (d .last .1 .1 .0)) (sym (g .1)) ∙ d .ensures .0) (p .ensures)
+    (ap (λ (r : Created). Create·out r (d .last .1 .1 .1 .0)) (sym (g .1)) ∙ d .ensures .0) (p .ensures)
 
 pub replay-spec : {M : Type 1} → statement M
 replay-spec =

@@ -11,7 +11,7 @@ enum-known-a-2 : tie.Need-enum-known-a-2
 enum-known-a-2 c = search needs
 
 returns : tie.Need-returns
-returns c = search needs
+returns c = sym (ap stateAfter (c .before .a .given .1))
 
 returns-2 : tie.Need-returns-2
 returns-2 c = sym (ap stateAfter (c .before .a2 .given .1))

@@ -3,14 +3,13 @@ use mathlib.Core.Path.{sym, _∙_}
 use lib.ListN.{length}
 use borrow.Author.Tests.{not-true, not-false}
 use borrow.Author.Needs.{needs}
-use Rattle.limits.specs.Limits.{pageSize}
 use Rattle.memory_arena.proofs.Laws.{good-in, sensible-facts}
 use Rattle.shared_arena_hashmap.proofs.Laws.{record-short, record-whole}
 use Rattle.shared_arena_hashmap.proofs.is_good_record.Statement.{statement}
 use Rattle.shared_arena_hashmap.proofs.is_good_record.Tie as tie
 
 is-good-span-requires : tie.Need-is-good-span-requires
-is-good-span-requires c κs = search needs
+is-good-span-requires c κs = sensible-facts _ _ (c .before .pre) .sized
 
 returns : tie.Need-returns
 returns c =
@@ -20,14 +19,14 @@ returns c =
 key-length-requires : tie.Need-key-length-requires
 key-length-requires c κs =
     let a = c .before .before .before .args in
-    good-in pageSize (a .arena) (a .at) 2 (length (a .keys .now)) (sensible-facts (a .arena) (length (a .keys .now)) (c .before .before .before .pre) .stands)
+    good-in (a .arena) (a .at) 2 (length (a .keys .now)) (sensible-facts (a .arena) (length (a .keys .now)) (c .before .before .before .pre) .stands)
     (sym (c .before .is-good-span .ensures) ∙ not-false _ (c .if1 .left))
 
 add-is-good-span : tie.Need-add-is-good-span
 add-is-good-span c = search needs
 
 is-good-span-requires-2 : tie.Need-is-good-span-requires-2
-is-good-span-requires-2 c κs = search needs
+is-good-span-requires-2 c κs = sensible-facts _ _ (c .before .before .before .before .pre) .sized
 
 returns-2 : tie.Need-returns-2
 returns-2 c =

@@ -5,6 +5,7 @@ use mathlib.Core.Path.{_≡_, sym, _∙_}
 use native.Mathlib.Omega.{arith}
 use borrow.Author.Needs.{needs}
 use borrow.Author.Tests.{not-true, not-false}
+use Rattle.memory_arena.proofs.Laws.{sensible-facts}
 use Rattle.expull.proofs.Laws.Header.{SoundHeader, sound-facts}
 use Rattle.expull.proofs.Laws.Blocks.{blocks-more, walk-true, walk-false, blocks-end, find-none, find-bad, find-at}
 use Rattle.numbers.proofs.Tests.{left-false}
@@ -73,7 +74,7 @@ add-is-good-span : tie.Need-add-is-good-span
 add-is-good-span c = search needs
 
 is-good-span-requires : tie.Need-is-good-span-requires
-is-good-span-requires c κs = search needs
+is-good-span-requires c κs = sensible-facts _ _ (c .before .before .before .before .before .before .before .before .pre .0) .sized
 
 returns-3 : tie.Need-returns-3
 returns-3 c =

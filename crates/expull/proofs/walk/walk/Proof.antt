@@ -9,6 +9,7 @@ use borrow.Author.Tests.{not-true, not-false}
 use lib.ListN.{length}
 use Rattle.expull.proofs.Laws.Blocks.{goodBlock}
 use Rattle.expull.proofs.Loops.{Walking, walking-test, walking-in, walking-next, walking-stop, walking-end}
+use Rattle.memory_arena.proofs.Laws.{sensible-facts}
 use Rattle.expull.specs.Blocks.{blockPlace, goodBlocks}
 use Rattle.limits.specs.Limits.{linkSize}
 use Rattle.expull.proofs.walk.walk.Statement.{statement}
@@ -55,7 +56,7 @@ add-is-good-span : tie.Need-add-is-good-span Inv-loop μ-loop
 add-is-good-span c = search needs
 
 is-good-span-requires : tie.Need-is-good-span-requires Inv-loop μ-loop
-is-good-span-requires c κs = search needs
+is-good-span-requires c κs = sensible-facts _ _ (c .before .before .before .before .pre .0) .sized
 
 returns : tie.Need-returns Inv-loop μ-loop
 returns c =

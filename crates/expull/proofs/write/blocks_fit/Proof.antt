@@ -4,6 +4,7 @@ use mathlib.Core.Path.{_≡_, refl, sym, ap, _∙_}
 use native.Mathlib.Omega.{arith}
 use borrow.Author.Needs.{needs}
 use Rattle.expull.proofs.Loops.{planning-end, plan-left, planning-turn, planning-next, Planning, no-room, planning-few}
+use Rattle.memory_arena.proofs.Laws.{sensible-wide}
 use Rattle.expull.specs.Append.{planned, planOf, isSome}
 use Rattle.expull.proofs.write.blocks_fit.Statement.{statement}
 use Rattle.expull.proofs.write.blocks_fit.Tie as tie
@@ -45,7 +46,9 @@ add-find-room : tie.Need-add-find-room Inv-loop μ-loop
 add-find-room c = search needs
 
 find-room-requires : tie.Need-find-room-requires Inv-loop μ-loop
-find-room-requires c κs = search needs
+find-room-requires c κs =
+    let e = c .before .before .loop .inv .sense in
+    (omega arith, (omega (arith, sensible-wide _ _ e), e))
 
 enum-known-after : tie.Need-enum-known-after Inv-loop μ-loop
 enum-known-after c = search needs

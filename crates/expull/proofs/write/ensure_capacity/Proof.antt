@@ -8,8 +8,9 @@ use lib.ListN.{length}
 use Rattle.expull.proofs.Laws.Append.{tail-in, ready-kept}
 use Rattle.expull.proofs.Loops.{waiting-room, block-taken}
 use Rattle.expull.specs.Append.{Writing, writing, nextWide, headerWith}
+use Rattle.memory_arena.proofs.Laws.{sensible-wide}
 use Rattle.memory_arena.specs.Pages.{roomFor}
-use Rattle.limits.specs.Limits.{pageSize, linkSize}
+use Rattle.limits.specs.Limits.{linkSize}
 use Rattle.expull.proofs.write.ensure_capacity.Statement.{statement}
 use Rattle.expull.proofs.write.ensure_capacity.Tie as tie
 
@@ -21,10 +22,10 @@ abbrev start : tie.After-find-room → tie.Start
 start c = c .before .before .before .before .before .before .before .before
 
 found : (c : tie.After-find-room)
-    → c .find-room .result ≡ roomFor pageSize (start c .args .w .arena) (length (start c .args .lists .now)) (nextWide (start c .args .w .header))
+    → c .find-room .result ≡ roomFor (start c .args .w .arena) (length (start c .args .lists .now)) (nextWide (start c .args .w .header))
 found c =
     let a = start c .args in
-    c .find-room .ensures ∙ ap (λ (n : ℕ). roomFor pageSize (a .w .arena) (length (a .lists .now)) (n + linkSize)) (c .before .get-block-size .ensures .0)
+    c .find-room .ensures ∙ ap (λ (n : ℕ). roomFor (a .w .arena) (length (a .lists .now)) (n + linkSize)) (c .before .get-block-size .ensures .0)
 
 returns : tie.Need-returns
 returns c = sym (ready-kept (begun (c .before .before .before .before .before)) (omega (arith, c .if1 .taken)))
@@ -42,7 +43,9 @@ add-wide : tie.Need-add-wide
 add-wide c = search needs
 
 find-room-requires : tie.Need-find-room-requires
-find-room-requires c κs = search needs
+find-room-requires c κs =
+    let e = c .before .before .before .before .before .before .before .pre .0 in
+    (omega arith, (omega (arith, sensible-wide _ _ e), e))
 
 enum-known-at : tie.Need-enum-known-at
 enum-known-at c = search needs

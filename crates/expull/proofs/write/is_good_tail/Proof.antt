@@ -17,7 +17,7 @@ add-is-good-span : tie.Need-add-is-good-span
 add-is-good-span c = search needs
 
 is-good-span-requires : tie.Need-is-good-span-requires
-is-good-span-requires c κs = search needs
+is-good-span-requires c κs = c .before .before .before .pre
 
 returns-2 : tie.Need-returns-2
 unfolding goodTail

@@ -1,5 +1,6 @@
--- The five parts of the check, one by one. Assumes nothing.
+-- The six parts of the check, one by one. Assumes nothing.
 use mathlib.Core.Bool.{_&&_}
+use lib.Dec.{eqb}
 use borrow.Author.Needs.{needs}
 use Rattle.store.specs.State.{wholeState}
 use Rattle.store.proofs.check.is_whole_state.Statement.{statement}
@@ -25,7 +26,9 @@ unfolding wholeState
 returns c =
     λ i. c .before .before .before .before .are-lengths-equal .ensures i
     && (c .before .before .before .is-taken .ensures i
-    && (c .before .before .does-table-fit .ensures i && (c .before .is-sensible .ensures i && c .is-sensible2 .ensures i)))
+    && (c .before .before .does-table-fit .ensures i
+    && (eqb (c .before .before .before .before .before .before .before .args .st .«key_arena» .size) (c .before .before .before .before .before .before .before .args .st .«list_arena» .size)
+    && (c .before .is-sensible .ensures i && c .is-sensible2 .ensures i))))
 
 pub is-whole-state-spec : {M : Type 1} → statement M
 is-whole-state-spec =

@@ -22,7 +22,7 @@ clear-requires : tie.Need-clear-requires
 clear-requires c κs =
     let a = c .before .before .before .before .before .before .before .args in
     subst (λ (n : ℕ). 2 * (0 + n) ≤ length (a .table .now)) (sym (c .before .compute-previous-power-of-two .ensures))
-    (creatable-room (a .capacity) (length (a .table .now)) (length (a .keys .now)) (length (a .lists .now)) (sym (c .before .before .before .is-creatable .ensures) ∙ c .before .before .if1 .taken))
+    (creatable-room (a .capacity) (a .size) (length (a .table .now)) (length (a .keys .now)) (length (a .lists .now)) (sym (c .before .before .before .is-creatable .ensures) ∙ c .before .before .if1 .taken))
 
 fresh-state-requires : tie.Need-fresh-state-requires
 fresh-state-requires c κs = search needs
@@ -38,16 +38,16 @@ returns c =
     let kb = length (a .keys .now) in
     let lb = length (a .lists .now) in (
       ap₂ (λ (s : State) (t : List ℕ). out (Made s) t)
-          (c .fresh-state .ensures ∙ ap (freshState (a .seed) w kb lb) k)
+          (c .fresh-state .ensures ∙ ap (freshState (a .seed) (a .size) w kb lb) k)
           (c .before .before .before .clear .ensures ∙ ap (λ (n : ℕ). cleared 0 n (a .table .now)) k)
-          ∙ sym (create-made (a .capacity) (a .seed) (a .table .now) kb lb (sym (c .before .before .before .before .before .before .before .is-creatable .ensures) ∙ c .before .before .before .before .before .before .if1 .taken)),
+          ∙ sym (create-made (a .capacity) (a .seed) (a .size) (a .table .now) kb lb (sym (c .before .before .before .before .before .before .before .is-creatable .ensures) ∙ c .before .before .before .before .before .before .if1 .taken)),
       refl,
     )
 
 returns-2 : tie.Need-returns-2
 returns-2 c =
     let a = c .before .before .before .before .before .args in
-    (sym (create-barred (a .capacity) (a .seed) (a .table .now) (length (a .keys .now)) (length (a .lists .now)) (sym (c .before .is-creatable .ensures) ∙ c .if1 .left)), refl)
+    (sym (create-barred (a .capacity) (a .seed) (a .size) (a .table .now) (length (a .keys .now)) (length (a .lists .now)) (sym (c .before .is-creatable .ensures) ∙ c .if1 .left)), refl)
 
 pub create-spec : {M : Type 1} → statement M
 create-spec =

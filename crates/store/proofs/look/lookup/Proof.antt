@@ -3,6 +3,7 @@ use mathlib.Core.Bool.{true}
 use mathlib.Core.Path.{_≡_, refl, sym, ap, subst, _∙_}
 use borrow.Author.Needs.{needs}
 use borrow.Author.Tests.{not-true, not-false}
+use lib.ListN.{length}
 use Rattle.store.proofs.Fair.{fair-lookup}
 use Rattle.store.proofs.Found.{lookup-2, lookup-3, lookup-nameless, lookup-met}
 use Rattle.store.specs.Look.{Lent, lent, checked}

@@ -11,7 +11,6 @@ use Rattle.store.proofs.Whole.{whole-facts}
 use Rattle.store.specs.Look.{lent}
 use Rattle.memory_arena.proofs.Laws.{good-in, sensible-facts}
 use Rattle.spans.specs.Span.{readSpan}
-use Rattle.limits.specs.Limits.{pageSize}
 use Rattle.store.proofs.look.show_block.Statement.{statement}
 use Rattle.store.proofs.look.show_block.Tie as tie
 
@@ -33,7 +32,10 @@ returns c =
     sym (show-2 (a .st) (lent (a .table .now) (a .keys .now) (a .lists .now)) (a .at) (a .n) (sym (c .before .before .is-whole-state .ensures) ∙ not-true _ (c .before .if1 .taken)))
 
 is-good-span-requires : tie.Need-is-good-span-requires
-is-good-span-requires c κs = search needs
+is-good-span-requires c κs =
+    let a = c .before .before .before .before .before .before .args in
+    let w = whole-facts (a .st) (length (a .table .now)) (length (a .keys .now)) (length (a .lists .now)) (sym (c .before .is-whole-state .ensures) ∙ not-false _ (c .if1 .left)) in
+    sensible-facts _ _ (w .list-arena) .sized
 
 sub-result-2 : tie.Need-sub-result-2
 sub-result-2 c = search needs
@@ -56,7 +58,7 @@ inside : (c : tie.Else2)
 inside c =
     let a = c .before .before .before .before .before .before .before .before .args in
     let w = whole-facts (a .st) (length (a .table .now)) (length (a .keys .now)) (length (a .lists .now)) (sym (c .before .before .before .is-whole-state .ensures) ∙ not-false _ (c .before .before .if1 .left)) in
-    good-in pageSize (a .st .«list_arena») (a .at) (a .n) (length (a .lists .now)) (sensible-facts _ _ (w .list-arena) .stands)
+    good-in (a .st .«list_arena») (a .at) (a .n) (length (a .lists .now)) (sensible-facts _ _ (w .list-arena) .stands)
     (sym (c .before .is-good-span .ensures) ∙ not-false _ (c .if2 .left))
 
 add-to : tie.Need-add-to

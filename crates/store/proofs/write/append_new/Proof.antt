@@ -16,13 +16,17 @@ use Rattle.expull.specs.Append.{writing, isSome, planOf, goodTail}
 use Rattle.expull.specs.Header.{fresh, soundHeader}
 use Rattle.expull.specs.declared.Header.{Header}
 use Rattle.memory_arena.proofs.Laws.{sensible-facts, room-in}
-use Rattle.limits.specs.Limits.{pageSize, recordExtra}
+use Rattle.limits.specs.Limits.{nameLimit, recordExtra, record-fits, name-within}
 use Rattle.store.proofs.write.append_new.Statement.{statement}
 use Rattle.store.proofs.write.append_new.Tie as tie
 
 -- the whole-state check, clause by clause
 whole : (c : tie.Start) → Whole (c .args .st) (length (c .args .table .now)) (length (c .args .keys .now)) (length (c .args .lists .now))
 whole c = whole-facts (c .args .st) (length (c .args .table .now)) (length (c .args .keys .now)) (length (c .args .lists .now)) (c .pre .0)
+
+-- a name's length is two bytes
+short : (c : tie.Start) → length (c .args .name .now) ≤ nameLimit
+short c = omega (arith, c .pre .1, name-within (c .args .st .«key_arena» .size))
 
 -- the table takes a new key
 roomy : (c : tie.Else1) → isCrowded (c .before .before .before .before .before .before .before .args .st) ≡ false
@@ -55,12 +59,12 @@ returns c =
     sym (new-5 (a .st) (lent (a .table .now) (a .keys .now) (a .lists .now)) (a .name .now) (a .bytes .now) (sym (c .before .is-crowded .ensures) ∙ c .if1 .taken))
 
 add-find-room : tie.Need-add-find-room
-add-find-room c = search needs
+add-find-room c = omega (arith, short (c .before .before .before .before .before .before .before .before))
 
 find-room-requires : tie.Need-find-room-requires
 find-room-requires c κs =
     let s = c .before .before .before .before .before .before .before .before in
-    (omega arith, (omega (arith, s .pre .1), whole s .key-arena))
+    (omega arith, (omega (arith, s .pre .1, record-fits (s .args .st .«key_arena» .size) (sensible-facts _ _ (whole s .key-arena) .sized)), whole s .key-arena))
 
 enum-known-room : tie.Need-enum-known-room
 enum-known-room c = search needs
@@ -92,9 +96,9 @@ unfolding soundHeader goodTail
 write-new-requires c κs =
     let s = c .before .before .before .before .before .before .before .before .before .before .before .before .before .before .before .before .before .before .before in
     let a = s .args in
-    let r = room-in pageSize (a .st .«key_arena») (length (a .keys .now)) (length (a .name .now) + recordExtra) _ _ (omega arith) (sensible-facts _ _ (whole s .key-arena) .stands)
+    let r = room-in (a .st .«key_arena») (length (a .keys .now)) (length (a .name .now) + recordExtra) _ _ (omega arith) (sensible-facts _ _ (whole s .key-arena) .stands)
     (sym (c .before .before .before .before .before .before .before .before .before .before .find-room .ensures) ∙ c .before .before .before .before .before .before .before .before .room .given .1) in
-    (record { whole = s .pre .0; sound = refl; tail = refl; room = sym (fit-is (c .before .before .before .before)) ∙ not-false _ (c .before .before .before .if2 .left) }, (s .pre .1, r))
+    (record { whole = s .pre .0; sound = refl; tail = refl; room = sym (fit-is (c .before .before .before .before)) ∙ not-false _ (c .before .before .before .if2 .left) }, (short s, r))
 
 same-length : tie.Need-same-length
 same-length c = search needs

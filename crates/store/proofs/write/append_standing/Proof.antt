@@ -4,6 +4,7 @@ use mathlib.Core.Path.{_≡_, sym, ap, _∙_}
 use borrow.Author.Needs.{needs}
 use borrow.Author.Tests.{not-true, not-false}
 use lib.ListN.{length}
+use Rattle.memory_arena.proofs.Laws.{sensible-facts}
 use Rattle.store.proofs.Cases.{standing-4, standing-4-tail, standing-on, standing-7, plan-none}
 use Rattle.store.proofs.Found.{Headed, head-found, head-lost}
 use Rattle.store.proofs.Whole.{whole-facts}
@@ -40,7 +41,10 @@ returns c =
     sym (standing-4 (a .st) (lent (a .table .now) (a .keys .now) (a .lists .now)) (a .bytes .now) (a .bytes .now) (a .at) (head-lost _ _ (sym (c .before .before .get-head .ensures) ∙ c .enum-told .given .1)))
 
 is-good-tail-requires : tie.Need-is-good-tail-requires
-is-good-tail-requires c κs = search needs
+is-good-tail-requires c κs =
+    let s = c .before .before .before .before .before .before .before .before .before .before in
+    let a = s .args in
+    sensible-facts _ _ (whole-facts (a .st) (length (a .table .now)) (length (a .keys .now)) (length (a .lists .now)) (s .pre .0) .list-arena) .sized
 
 same-length-2 : tie.Need-same-length-2
 same-length-2 c = search needs
