@@ -2,11 +2,12 @@
 """oracle/brownout.py [MEMORIES] [SEED]: plays brownouts on the testbench and on oracle/model.py, and compares all answers.
 
 A memory is a small store: one with a history, or one that no history leaves, written by hand (blocks and records in any
-order, gaps between them, tables of any fill). Into most of them one or two faults are planted, each kind that document
-02 names, or bytes are overwritten at random. Then the check, with a mark area of the exact size, a byte less or a byte
-more. Where the testbench calls a memory sound, every call by every name is made on it, listings and appends too: none
-may answer 4, and after the appends the check must still call it sound. It prints how often each answer came; the exit
-status is 1 where the answers differ or a sound memory answered 4. The testbench is played by ./run, which builds it."""
+order, gaps between them, tables of any fill), with pages of each size. Into most of them one or two faults are planted,
+each kind that document 02 names, or bytes are overwritten at random. Then the check, with a mark area of the exact
+size, a byte less or a byte more. Where the testbench calls a memory sound, every call by every name is made on it,
+listings and appends too: none may answer 4, and after the appends the check must still call it sound. It prints how
+often each answer came; the exit status is 1 where the answers differ or a sound memory answered 4. The testbench is
+played by ./run, which builds it."""
 import collections
 import os
 import random
@@ -16,7 +17,7 @@ import sys
 HERE = os.path.dirname(os.path.abspath(__file__))
 sys.dont_write_bytecode = True
 sys.path.insert(0, HERE)
-from model import FIELDS, NULL, PAGE, Bench, Refused, Store, block_size, le, murmur, number  # noqa: E402
+from model import FIELDS, NULL, SIZES, Bench, Refused, Store, block_size, le, murmur, number  # noqa: E402
 
 RUN = os.path.join(HERE, "..", "run")
 BATCH = 200  # memories that one run of the testbench plays
@@ -32,7 +33,8 @@ def name_of(rng):
 def fresh(rng, words, paged):
     st = Store()
     st.table = [rng.choice((0, NULL, rng.getrandbits(32))) for _ in range(words)]
-    extra = PAGE if paged else 0
+    st.s["page_size"] = rng.choice((65536, 65536, 65536, 131072) if paged else SIZES)
+    extra = st.s["page_size"] if paged else 0
     st.keys = bytearray(extra) + bytearray(rng.randbytes(rng.randint(40, 300)))
     st.lists = bytearray(extra) + bytearray(rng.randbytes(rng.randint(24, 700)))
     return st
@@ -41,12 +43,13 @@ def fresh(rng, words, paged):
 def lived(rng, paged):
     """a store with a history"""
     st = fresh(rng, 2 * rng.choice((1, 2, 3, 12, 24, 48, 64)), paged)
+    size = st.s["page_size"]
     try:
-        st.create(rng.randint(1, 16), rng.getrandbits(32) if rng.random() < 0.5 else 7)
+        st.create(rng.randint(1, 16), rng.getrandbits(32) if rng.random() < 0.5 else 7, size)
     except Refused:
-        st.create(1, 7)
+        st.create(1, 7, size)
     if paged:
-        st.s["key_used"], st.s["list_used"] = PAGE - rng.randint(0, 90), PAGE - rng.randint(0, 200)
+        st.s["key_used"], st.s["list_used"] = size - rng.randint(0, 90), size - rng.randint(0, 200)
     for _ in range(rng.randint(0, 14)):
         name = name_of(rng)
         try:
@@ -84,7 +87,8 @@ def written(rng):
         return lived(rng, False)
     where = {span: at for span, at in zip(spans, blocks)}
     back, seed = rng.randint(0, 1), rng.getrandbits(32)
-    st.s = dict(zip(FIELDS, [seed, 64, len(st.keys), len(st.lists), L, back, len(names), 0, key_used, 0, list_used]))
+    told = [seed, 64, len(st.keys), len(st.lists), L, back, len(names), 0, key_used, 0, list_used, st.s["page_size"]]
+    st.s = dict(zip(FIELDS, told))
     st.s["key_used"] += rng.randint(0, len(st.keys) - key_used)
     st.s["list_used"] += rng.randint(0, len(st.lists) - list_used)
     for i in range(L):
@@ -147,7 +151,7 @@ def plant(rng, st, kind):
         return
     if kind == 1:
         if rng.random() < 0.5:
-            st.table[first + 2 * i] = rng.choice((st.s["key_used"] - 1, len(st.keys), NULL - 1, PAGE * 7, at + 1))
+            st.table[first + 2 * i] = rng.choice((st.s["key_used"] - 1, len(st.keys), NULL - 1, st.s["page_size"] * 7, at + 1))
         else:
             st.keys[at:at + 2] = rng.choice((b"\xff\xff", le((number(st.keys[at:at + 2]) + 200) % 65536, 2)))
     elif kind == 2:
@@ -176,14 +180,14 @@ def plant(rng, st, kind):
             put(st, i, which, rng.choice((0, 1, 2, 3, 140000, 140001, NULL, 32769, 9)))
     elif kind == 5:
         blocks = chain(st, i)
-        bad = rng.choice((NULL, len(st.lists), max(0, st.s["list_used"] - 1), 2 * PAGE))
+        bad = rng.choice((NULL, len(st.lists), max(0, st.s["list_used"] - 1), 2 * st.s["page_size"]))
         if blocks and rng.random() < 0.6:
             p, size = rng.choice(blocks)
             st.lists[p + size:p + size + 4] = le(bad, 4)
         else:
             put(st, i, "head", bad)
     elif kind == 6:
-        put(st, i, rng.choice(("tail", "tail", "rem")), field(st, i, "tail") + rng.choice((-1, 1, 4, 1 << 20)))
+        put(st, i, rng.choice(("tail", "tail", "rem")), field(st, i, "tail") + rng.choice((-1, 1, 4, st.s["page_size"])))
     else:
         overlap(rng, st, i, rng.choice(full))
 
@@ -292,7 +296,7 @@ def looks(st):
 def memory(rng):
     """a memory, and what was done to it: nothing, damage, or it was written by hand"""
     kind = rng.random()
-    st = written(rng) if kind < 0.4 else lived(rng, kind > 0.985)
+    st = written(rng) if kind < 0.4 else lived(rng, kind > 0.95)
     before = looks(st)
     damage(rng, st)
     return st, "written" if kind < 0.4 else "lived" if looks(st) == before else "damaged"

@@ -17,7 +17,7 @@ use Rattle.history_readings.specs.Cases.{lowest, steps, six, accepted-ca
 use Rattle.history_readings.proofs.Demand.{readings-demand}
 
 worked : ReadingsDemand start steps
-worked = readings-demand 1 0 (replicate 18 7) (replicate 64 7) (replicate 64 7) start born steps
+worked = readings-demand 1 0 65536 (replicate 18 7) (replicate 64 7) (replicate 64 7) start born steps
 
 handed : HandedOn (pos 0) (acceptedFor lane-a steps start)
 handed =
