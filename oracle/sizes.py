@@ -10,6 +10,7 @@ The testbench is played by ./run, which builds it; TESTBENCH names another progr
 import collections
 import os
 import random
+import re
 import subprocess
 import sys
 
@@ -175,6 +176,13 @@ def play(script):
     return said.split("\n")[:-1]
 
 
+def kind_of(said):
+    if said.startswith("refused"):
+        return " ".join(said.split(" ")[:2])
+    first = said.split(" ")[0]
+    return "bytes" if first == "-" or re.fullmatch("([0-9a-f]{2})+", first) else first
+
+
 def main():
     scripts = int(sys.argv[1]) if len(sys.argv) > 1 else 400
     seed = int(sys.argv[2]) if len(sys.argv) > 2 else 1
@@ -191,7 +199,7 @@ def main():
             print("%d answers of the testbench, %d of the model" % (len(theirs), len(ours)))
         for line, size, a, b in zip(whole, sizes, theirs, ours):
             lines += 1
-            counts[size][" ".join(a.split(" ")[:2]) if a.startswith("refused") else a.split(" ")[0]] += 1
+            counts[size][kind_of(a)] += 1
             if a != b:
                 faults += 1
                 print("differs: %s: testbench %s, model %s" % (line[:200], a[:200], b[:200]))
