@@ -156,6 +156,8 @@ def number(data):
 
 
 class Store:
+    walk = 0  # how many buckets the last call by name looked at: one number for all stores
+
     def __init__(self):
         self.table, self.keys, self.lists = [], bytearray(), bytearray()
         self.s = dict.fromkeys(FIELDS, 0)
@@ -200,6 +202,7 @@ class Store:
 
     def probe(self, name, nameless):
         """place of the record, 'empty' or 'lap'; for the empty name, which isn't looked up, what is given as nameless"""
+        Store.walk = 0
         self.check()
         if len(name) > 65535 or len(name) + 18 > self.s["page_size"]:
             raise Refused(3)
@@ -208,6 +211,7 @@ class Store:
         L, first = self.s["buckets"], self.first()
         h = murmur(self.s["seed"], name)
         for i in range(L):
+            Store.walk = i + 1
             b = first + 2 * ((h + 1 + i) % L)
             if self.table[b] == NULL:
                 return "empty"
@@ -536,7 +540,8 @@ drift NAME LAST READING
 readings NAME ROOM
 piece NAME GIVEN ROOM
 feed COUNT HELD FED PIECE ROOM END
-check MARKBYTES HH""".split("\n")
+check MARKBYTES HH
+walk""".split("\n")
 COMMANDS = {u.split()[0]: u for u in USAGE}
 HELP = """# a command to a line, words one space apart; an empty line and one that begins with # are passed over
 # NUMBERS are decimal
@@ -618,7 +623,7 @@ class Bench:
             raise Fault("not bytes: hex pairs, - or N*HH joined by +, or ' and a name")
         if w > 131072 or k > 2 * PAGE or l > 3 * PAGE:
             raise Fault("no such memory: at most 131072 words, 2097152 and 3145728 bytes")
-        self.st = Store()
+        self.st, Store.walk = Store(), 0
         self.st.table = [int(hh, 16) * 0x01010101] * w
         self.st.keys = bytearray([int(hh, 16)]) * k
         self.st.lists = bytearray([int(hh, 16)]) * l
@@ -818,6 +823,9 @@ class Bench:
         except Refused as e:
             said = "refused %d%s" % (e.number, "" if e.told is None else " %d" % e.told)
             return said + (" zero" if marks == 0 or hh == "00" else " kept")
+
+    def walk(self):
+        return "walk %d" % Store.walk
 
     def help(self):
         return HELP + "\n" + "\n".join("# " + u for u in USAGE)

@@ -5,7 +5,8 @@ oracle/model.py, and compares all answers.
 A script lends areas of whole and of short pages and creates a store of one of the five sizes. Then come calls of every
 kind: appends that end near a page's end, names near the longest, readings, pieces, blocks, listings, checks, reports,
 bare arenas with sizes of their own; now and then a size that isn't taken, another size or page in the state, damaged
-bytes, a creation anew. It prints how often each answer came, by size; the exit status is 1 where the answers differ.
+bytes, a creation anew. Half of the stores have names whose probes start at one bucket, and behind every other call its
+walk is asked for. It prints how often each answer came, by size; the exit status is 1 where the answers differ.
 The testbench is played by ./run, which builds it; TESTBENCH names another program to play on."""
 import collections
 import os
@@ -17,7 +18,7 @@ import sys
 HERE = os.path.dirname(os.path.abspath(__file__))
 sys.dont_write_bytecode = True
 sys.path.insert(0, HERE)
-from model import SIZES, Bench  # noqa: E402
+from model import SIZES, Bench, murmur  # noqa: E402
 
 RUN = os.environ.get("TESTBENCH", os.path.join(HERE, "..", "run"))
 BATCH = 40  # scripts that one run of the testbench plays
@@ -59,6 +60,17 @@ class Script:
         if self.add("create %d %d%s" % (capacity, seed, said)) != "created":
             self.add("create 1 %d %d" % (seed, self.size))
         self.last = {}
+        if rng.random() < 0.5:
+            self.names = self.colliding(seed)
+
+    def colliding(self, seed):
+        """names whose probes all start at one bucket of 16, and so of 8, 4, 2 and 1"""
+        start, found = self.rng.randrange(16), []
+        while len(found) < 9:
+            name = b"c" + self.rng.randbytes(self.rng.randint(1, 3))
+            if (murmur(seed, name) + 1) % 16 == start and name not in found:
+                found.append(name)
+        return found
 
     def name(self):
         rng = self.rng
@@ -112,6 +124,8 @@ class Script:
             self.bare()
         else:
             self.add(rng.choice(("state", "count", "sum" if rng.random() < 0.2 else "state")))
+        if rng.random() < 0.5:
+            self.add("walk")
 
     def bare(self):
         rng = self.rng
@@ -177,7 +191,7 @@ def play(script):
 
 
 def kind_of(said):
-    if said.startswith("refused"):
+    if said.startswith(("refused", "walk")):
         return " ".join(said.split(" ")[:2])
     first = said.split(" ")[0]
     return "bytes" if first == "-" or re.fullmatch("([0-9a-f]{2})+", first) else first

@@ -39,14 +39,17 @@ fn piece_into(
     name: &[u8],
     given: u64,
     output: &mut [u8],
-) {
+) -> usize {
     text::fill(output, 0xee);
-    let pieced = lane_pieces::piece(st, table, keys, lists, name, given, output);
-    say_pieced(pieced, output)
+    let told = lane_pieces::piece(st, table, keys, lists, name, given, output);
+    let answer = told.answer;
+    say_pieced(answer, output);
+    told.walk
 }
 
 // `piece NAME GIVEN ROOM`
 pub fn piece(
+    walk: usize,
     st: State,
     line: &[u8],
     table: &[u32],
@@ -54,13 +57,14 @@ pub fn piece(
     lists: &[u8],
     name: &mut [u8],
     output: &mut [u8],
-) {
+) -> usize {
     let a = words::bytes(line, 1, name);
     let given = words::number_at(line, 2);
     let room = words::length_at(line, 3, output.len(), fault::OUTPUT_TOO_LONG);
     let fault = fault::first(fault::first(a.fault, given.fault), room.fault);
     if fault != 0 {
-        return say::fault(fault);
+        say::fault(fault);
+        return walk;
     }
     let n = a.n;
     let m = room.n;

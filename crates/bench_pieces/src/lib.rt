@@ -8,9 +8,10 @@ mod lane; // lane.rt: piece, a lane's bytes behind a count
 
 use store::State;
 
-// The command of a number.
+// The command of a number: the walk that the last call by name told.
 pub fn play(
     k: u64,
+    walk: usize,
     st: State,
     line: &[u8],
     table: &[u32],
@@ -19,9 +20,12 @@ pub fn play(
     name: &mut [u8],
     output: &mut [u8],
     numbers: &mut [u32],
-) {
+) -> usize {
     match k {
-        80 => lane::piece(st, line, table, keys, lists, name, output),
-        _ => feed::feed(line, name, numbers),
+        80 => lane::piece(walk, st, line, table, keys, lists, name, output),
+        _ => {
+            feed::feed(line, name, numbers);
+            walk
+        }
     }
 }

@@ -1,6 +1,7 @@
 // The testbench's commands that read a store: lookup, length, read, block, show, next, count.
 //
-// Each reads its words, makes one call and says what it answered. It promises that it ends and stays inside what is
+// Each reads its words, makes one call, says what it answered and gives back the walk that the last call by name told:
+// its own, or the one before where it makes none. It promises that it ends and stays inside what is
 // lent, whatever the line, the state and the memory are; what the call answers, store promises. It uses memory_arena
 // (the state's type), store, text and say.
 use store::Answer;
@@ -23,13 +24,25 @@ fn say_lookup(l: Lookup) {
 }
 
 // `lookup NAME`
-fn lookup(st: State, line: &[u8], table: &[u32], keys: &[u8], lists: &[u8], name: &mut [u8]) {
+fn lookup(
+    walk: usize,
+    st: State,
+    line: &[u8],
+    table: &[u32],
+    keys: &[u8],
+    lists: &[u8],
+    name: &mut [u8],
+) -> usize {
     let a = words::bytes(line, 1, name);
     if a.fault != 0 {
-        return say::fault(a.fault);
+        say::fault(a.fault);
+        return walk;
     }
     let n = a.n;
-    say_lookup(store::look::lookup(st, table, keys, lists, &name[0..n]))
+    let told = store::look::lookup(st, table, keys, lists, &name[0..n]);
+    let answer = told.answer;
+    say_lookup(answer);
+    told.walk
 }
 
 fn say_outcome(o: Outcome) {
@@ -62,28 +75,51 @@ fn say_answer(a: Answer) {
 }
 
 // `length NAME`
-fn length(st: State, line: &[u8], table: &[u32], keys: &[u8], lists: &[u8], name: &mut [u8]) {
+fn length(
+    walk: usize,
+    st: State,
+    line: &[u8],
+    table: &[u32],
+    keys: &[u8],
+    lists: &[u8],
+    name: &mut [u8],
+) -> usize {
     let a = words::bytes(line, 1, name);
     if a.fault != 0 {
-        return say::fault(a.fault);
+        say::fault(a.fault);
+        return walk;
     }
     let n = a.n;
-    say_answer(store::look::length(st, table, keys, lists, &name[0..n]));
-    say::end()
+    let told = store::look::length(st, table, keys, lists, &name[0..n]);
+    let answer = told.answer;
+    say_answer(answer);
+    say::end();
+    told.walk
 }
 
 // `block NAME INDEX`
-fn block(st: State, line: &[u8], table: &[u32], keys: &[u8], lists: &[u8], name: &mut [u8]) {
+fn block(
+    walk: usize,
+    st: State,
+    line: &[u8],
+    table: &[u32],
+    keys: &[u8],
+    lists: &[u8],
+    name: &mut [u8],
+) -> usize {
     let a = words::bytes(line, 1, name);
     let index = words::number_at(line, 2);
     let fault = fault::first(a.fault, index.fault);
     if fault != 0 {
-        return say::fault(fault);
+        say::fault(fault);
+        return walk;
     }
     let n = a.n;
-    let answer = store::look::find_block(st, table, keys, lists, &name[0..n], index.value as usize);
+    let told = store::look::find_block(st, table, keys, lists, &name[0..n], index.value as usize);
+    let answer = told.answer;
     say_answer(answer);
-    say::end()
+    say::end();
+    told.walk
 }
 
 // How many bytes an answer has read.
@@ -107,14 +143,24 @@ fn say_reading(a: Answer, output: &[u8]) {
 }
 
 // A reading into an output, which is filled with ee before.
-fn read_into(st: State, table: &[u32], keys: &[u8], lists: &[u8], name: &[u8], output: &mut [u8]) {
+fn read_into(
+    st: State,
+    table: &[u32],
+    keys: &[u8],
+    lists: &[u8],
+    name: &[u8],
+    output: &mut [u8],
+) -> usize {
     text::fill(output, 0xee);
-    let answer = store::look::read(st, table, keys, lists, name, output);
-    say_reading(answer, output)
+    let told = store::look::read(st, table, keys, lists, name, output);
+    let answer = told.answer;
+    say_reading(answer, output);
+    told.walk
 }
 
 // `read NAME ROOM`
 fn read(
+    walk: usize,
     st: State,
     line: &[u8],
     table: &[u32],
@@ -122,12 +168,13 @@ fn read(
     lists: &[u8],
     name: &mut [u8],
     output: &mut [u8],
-) {
+) -> usize {
     let a = words::bytes(line, 1, name);
     let room = words::length_at(line, 2, output.len(), fault::OUTPUT_TOO_LONG);
     let fault = fault::first(a.fault, room.fault);
     if fault != 0 {
-        return say::fault(fault);
+        say::fault(fault);
+        return walk;
     }
     let n = a.n;
     let m = room.n;
@@ -174,9 +221,19 @@ fn count(st: State, table: &[u32], keys: &[u8], lists: &[u8]) {
     }
 }
 
-// The command of a number.
+// A command that is no call by name.
+fn play_other(k: u64, st: State, line: &[u8], table: &[u32], keys: &[u8], lists: &[u8]) {
+    match k {
+        24 => show(st, line, table, keys, lists),
+        25 => next(st, line, table, keys, lists),
+        _ => count(st, table, keys, lists),
+    }
+}
+
+// The command of a number: the walk that the last call by name told.
 pub fn play(
     k: u64,
+    walk: usize,
     st: State,
     line: &[u8],
     table: &[u32],
@@ -184,14 +241,15 @@ pub fn play(
     lists: &[u8],
     name: &mut [u8],
     output: &mut [u8],
-) {
+) -> usize {
     match k {
-        20 => lookup(st, line, table, keys, lists, name),
-        21 => length(st, line, table, keys, lists, name),
-        22 => read(st, line, table, keys, lists, name, output),
-        23 => block(st, line, table, keys, lists, name),
-        24 => show(st, line, table, keys, lists),
-        25 => next(st, line, table, keys, lists),
-        _ => count(st, table, keys, lists),
+        20 => lookup(walk, st, line, table, keys, lists, name),
+        21 => length(walk, st, line, table, keys, lists, name),
+        22 => read(walk, st, line, table, keys, lists, name, output),
+        23 => block(walk, st, line, table, keys, lists, name),
+        _ => {
+            play_other(k, st, line, table, keys, lists);
+            walk
+        }
     }
 }

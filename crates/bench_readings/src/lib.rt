@@ -2,7 +2,8 @@
 //
 // Each reads its words, makes one call and says what it answered. It promises that it ends and stays inside what is
 // lent, whatever the line, the state and the memory are; what the call answers, readings promises. It uses memory_arena
-// and store (for the state), signed, readings, text, say and bench_write.
+// and store (for the state), signed, readings, text, say, bench_state and bench_write.
+use bench_state::Played;
 use readings::Recalled;
 use store::State;
 use text::fault;
@@ -120,7 +121,7 @@ fn append_to(
     name: &[u8],
     last: u32,
     new: u32,
-) -> State {
+) -> Played {
     let l = signed::as_signed(last);
     let r = signed::as_signed(new);
     bench_write::say_appended(readings::append_reading(st, table, keys, lists, name, l, r))
@@ -128,20 +129,21 @@ fn append_to(
 
 // `drift NAME LAST READING`
 fn drift(
+    walk: usize,
     st: State,
     line: &[u8],
     table: &mut [u32],
     keys: &mut [u8],
     lists: &mut [u8],
     name: &mut [u8],
-) -> State {
+) -> Played {
     let a = words::bytes(line, 1, name);
     let last = signed_at(line, 2);
     let new = signed_at(line, 3);
     let fault = fault::first(a.fault, fault::first(last.fault, new.fault));
     if fault != 0 {
         say::fault(fault);
-        return st;
+        return Played { st, walk };
     }
     let n = a.n;
     let l = words::low_32(last.value);
@@ -187,14 +189,17 @@ fn recall_into(
     lists: &[u8],
     name: &[u8],
     places: &mut [i32],
-) {
+) -> usize {
     fill(places);
-    let recalled = readings::readings(st, table, keys, lists, name, places);
-    say_recalled(recalled, places)
+    let told = readings::readings(st, table, keys, lists, name, places);
+    let answer = told.answer;
+    say_recalled(answer, places);
+    told.walk
 }
 
 // `readings NAME ROOM`
 fn recall(
+    walk: usize,
     st: State,
     line: &[u8],
     table: &[u32],
@@ -202,21 +207,23 @@ fn recall(
     lists: &[u8],
     name: &mut [u8],
     places: &mut [i32],
-) {
+) -> usize {
     let a = words::bytes(line, 1, name);
     let room = words::length_at(line, 2, places.len(), fault::TOO_MANY_PLACES);
     let fault = fault::first(a.fault, room.fault);
     if fault != 0 {
-        return say::fault(fault);
+        say::fault(fault);
+        return walk;
     }
     let n = a.n;
     let m = room.n;
     recall_into(st, table, keys, lists, &name[0..n], &mut places[0..m])
 }
 
-// The command of a number: the state afterwards.
+// The command of a number: what it leaves.
 pub fn play(
     k: u64,
+    walk: usize,
     st: State,
     line: &[u8],
     table: &mut [u32],
@@ -224,10 +231,10 @@ pub fn play(
     lists: &mut [u8],
     name: &mut [u8],
     places: &mut [i32],
-) -> State {
+) -> Played {
     if k == 70 {
-        return drift(st, line, table, keys, lists, name);
+        return drift(walk, st, line, table, keys, lists, name);
     }
-    recall(st, line, table, keys, lists, name, places);
-    st
+    let told = recall(walk, st, line, table, keys, lists, name, places);
+    Played { st, walk: told }
 }

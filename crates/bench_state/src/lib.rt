@@ -9,6 +9,12 @@ use text::words;
 ghost use Prim.Native.Nat.{_+_, _≤_};
 ghost use lib.ListN.{length};
 
+// What a command leaves: the store's state, and how many buckets the last call by name said that it looked at.
+pub struct Played {
+    pub st: State,
+    pub walk: usize,
+}
+
 const COUNT: usize = 12;
 
 // The state's numbers, in the order in which they are told. The end is 0 at the front of the lent table and 1 at its

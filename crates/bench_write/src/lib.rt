@@ -2,10 +2,12 @@
 //
 // Each reads its words, makes one call, says what it answered and gives back the state. It promises that it ends and
 // stays inside what is lent, whatever the line, the state and the memory are; what the call answers, store promises. It
-// uses limits, memory_arena and store (for the state), text and say.
+// uses limits, memory_arena and store (for the state), text, say and bench_state.
+use bench_state::Played;
 use store::Appended;
 use store::Created;
 use store::State;
+use store::ToldAppend;
 use text::fault;
 use text::words;
 
@@ -38,7 +40,7 @@ fn create(st: State, line: &[u8], table: &mut [u32], keys: &[u8], lists: &[u8]) 
 }
 
 // An append's answer: the state afterwards.
-pub fn say_appended(a: Appended) -> State {
+fn say_answer(a: Appended) -> State {
     match a {
         Appended::Accepted(next) => {
             say::line(b"accepted");
@@ -51,8 +53,31 @@ pub fn say_appended(a: Appended) -> State {
     }
 }
 
+// An append's answer, and what it leaves.
+pub fn say_appended(told: ToldAppend) -> Played {
+    let answer = told.answer;
+    let st = say_answer(answer);
+    Played {
+        st,
+        walk: told.walk,
+    }
+}
+
+fn append_to(
+    st: State,
+    table: &mut [u32],
+    keys: &mut [u8],
+    lists: &mut [u8],
+    name: &[u8],
+    bytes: &[u8],
+) -> Played {
+    let told = store::write::append(st, table, keys, lists, name, bytes);
+    say_appended(told)
+}
+
 // `append NAME BYTES`
 fn append(
+    walk: usize,
     st: State,
     line: &[u8],
     table: &mut [u32],
@@ -60,21 +85,21 @@ fn append(
     lists: &mut [u8],
     name: &mut [u8],
     output: &mut [u8],
-) -> State {
+) -> Played {
     let g = words::two_bytes(line, name, output);
     if g.fault != 0 {
         say::fault(g.fault);
-        return st;
+        return Played { st, walk };
     }
     let n = g.n;
     let m = g.m;
-    let appended = store::write::append(st, table, keys, lists, &name[0..n], &output[0..m]);
-    say_appended(appended)
+    append_to(st, table, keys, lists, &name[0..n], &output[0..m])
 }
 
-// The command of a number: the state afterwards.
+// The command of a number: what it leaves.
 pub fn play(
     k: u64,
+    walk: usize,
     st: State,
     line: &[u8],
     table: &mut [u32],
@@ -82,9 +107,12 @@ pub fn play(
     lists: &mut [u8],
     name: &mut [u8],
     output: &mut [u8],
-) -> State {
+) -> Played {
     match k {
-        10 => create(st, line, table, keys, lists),
-        _ => append(st, line, table, keys, lists, name, output),
+        10 => {
+            let made = create(st, line, table, keys, lists);
+            Played { st: made, walk }
+        }
+        _ => append(walk, st, line, table, keys, lists, name, output),
     }
 }

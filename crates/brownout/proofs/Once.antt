@@ -16,8 +16,8 @@ use Rattle.fastcmp.proofs.Laws.{equal-true, equal-same}
 use Rattle.shared_arena_hashmap.specs.declared.Met.{Met}
 use Rattle.shared_arena_hashmap.specs.declared.Met.the-variants.{Empty, Standing, Damaged, Lap}
 use Rattle.store.specs.declared.State.{State}
-use Rattle.store.specs.Look.{Lent, walkOf}
-use Rattle.brownout_faults.specs.Check.{vacant, recordIn, nameIn, headerIn, goodIn, nameAmong, foundMet, lookedAt}
+use Rattle.store.specs.Look.{Lent, walkOf, inOrder}
+use Rattle.brownout_faults.specs.Check.{vacant, recordIn, nameIn, headerIn, goodIn, nameAmong, foundMet}
 use Rattle.brownout_faults.specs.Check.{foundIn, headerGood, blocksGood, tailGood, overlapsIn, faultIn}
 use Rattle.brownout.specs.Code.{bucketOf, listJudged, judged}
 use Rattle.brownout_faults.proofs.Faults.{Clean, chain, chain-facts, fault-chain, clean-facts}
@@ -105,13 +105,13 @@ module _ (st : State) (m : Lent) where
     unfolding foundIn bucketOf
     found-bucket name j h = go (foundMet (length name) (walkOf st m name .met))
       where
-        go : (b : Bool) → (b && eqb (lookedAt st name (walkOf st m name .looked)) j)
-            ≡ eqb (cond b (lookedAt st name (walkOf st m name .looked)) (st .buckets)) j
+        go : (b : Bool) → (b && eqb (inOrder st name (walkOf st m name .looked)) j)
+            ≡ eqb (cond b (inOrder st name (walkOf st m name .looked)) (st .buckets)) j
         go true = refl
         go false = sym (ne-eqb (st .buckets) j (λ z. omega arith))
 
     abbrev at : List ℕ → Met → ℕ
-    at name x = cond (foundMet (length name) x) (lookedAt st name (walkOf st m name .looked)) (st .buckets)
+    at name x = cond (foundMet (length name) x) (inOrder st name (walkOf st m name .looked)) (st .buckets)
 
     -- a name found in a bucket stands there
     stands-in : (name : List ℕ) → bucketOf st m name < st .buckets
@@ -126,9 +126,9 @@ module _ (st : State) (m : Lent) where
         go Lap e h = absurd (omega arith)
         go (Standing x) e h = named (ltb 0 (length name)) h
           where
-            named : (b : Bool) → cond b (lookedAt st name (walkOf st m name .looked)) (st .buckets) < st .buckets
-                → (vacant st m (cond b (lookedAt st name (walkOf st m name .looked)) (st .buckets)) ≡ false)
-                × (nameIn st m (cond b (lookedAt st name (walkOf st m name .looked)) (st .buckets)) ≡ name)
+            named : (b : Bool) → cond b (inOrder st name (walkOf st m name .looked)) (st .buckets) < st .buckets
+                → (vacant st m (cond b (inOrder st name (walkOf st m name .looked)) (st .buckets)) ≡ false)
+                × (nameIn st m (cond b (inOrder st name (walkOf st m name .looked)) (st .buckets)) ≡ name)
             named false h = absurd (omega arith)
             named true h =
                 let r = walk-found st m some-bucket name x e in

@@ -16,16 +16,16 @@ use Rattle.expull.specs.Header.{blockSize, blockCount, soundHeader}
 use Rattle.expull.specs.Blocks.{blockPlace, goodBlocks}
 use Rattle.murmurhash2.specs.Murmur.{murmurHash2}
 use Rattle.store.specs.declared.State.{State}
-use Rattle.store.specs.Look.{Lent, walkOf, headerOf, headerSound}
+use Rattle.store.specs.Look.{Lent, walkOf, headerOf, headerSound, inOrder}
 use Rattle.brownout_faults.specs.declared.Checked.the-variants.{Sound, Faulty, Miscounted}
-use Rattle.brownout_faults.specs.Check.{vacant, recordIn, headerIn, foundMet, lookedAt, tailGood, Out, out}
+use Rattle.brownout_faults.specs.Check.{vacant, recordIn, headerIn, foundMet, tailGood, Out, out}
 
 -- ---- faults 1 to 6
 
 -- RULES AF15. The bucket in which probing finds a name; L where it doesn't.
 unfoldable pub bucketOf : State → Lent → List ℕ → ℕ
 unfolding walkOf murmurHash2
-bucketOf st m name = cond (foundMet (length name) (walkOf st m name .met)) (lookedAt st name (walkOf st m name .looked))
+bucketOf st m name = cond (foundMet (length name) (walkOf st m name .met)) (inOrder st name (walkOf st m name .looked))
     (st .buckets)
 
 -- RULES AF15. Faults 5 and 6 of a list.

@@ -15,7 +15,6 @@ use Rattle.fastcmp.specs.Equal.{equalBytes}
 use Rattle.fastcmp.proofs.Laws.{equal-true}
 use Rattle.murmurhash2.specs.Murmur.{murmurHash2}
 use Rattle.memory_arena.specs.declared.Arena.{Arena}
-use Rattle.memory_arena.proofs.Laws.{split, place-of}
 use Rattle.shared_arena_hashmap.specs.declared.Seen.{Seen}
 use Rattle.shared_arena_hashmap.specs.declared.Seen.the-variants.{Nothing, Same, Broken, Other}
 use Rattle.shared_arena_hashmap.specs.declared.Met.the-variants.{Standing, Damaged, Lap}
@@ -24,30 +23,12 @@ use Rattle.shared_arena_hashmap.specs.Buckets.{addressAt, hashAt, emptyAt}
 use Rattle.shared_arena_hashmap.specs.Probe.{keyAt, goodRecord, seenRecord, seenAt, startOf, nextBucket, onSeen, probe}
 use Rattle.shared_arena_hashmap.specs.Probe.{lookup}
 use Rattle.history_names.specs.Table.{Names, nameAt, Taken, occupied, Reached}
-use Rattle.shared_arena_hashmap.proofs.Room.{next-cases, next-below, start-below}
+use Rattle.shared_arena_hashmap.proofs.Room.{next-mod, next-below, start-below}
 use Rattle.history_names.proofs.Walk.{AllTaken, taken-count}
 use Rattle.store.specs.declared.State.{State}
 use Rattle.store.specs.State.{firstOf}
-use Rattle.store.specs.Look.{Lent, walkOf}
-use Rattle.brownout_faults.specs.Check.{vacant, recordIn, nameIn, goodIn, lookedAt, entries}
-
--- ---- places
-
-next-mod : (l x i : ℕ) → i < l → i ≡ x % l → nextBucket l i ≡ (x + 1) % l
-next-mod l x i h e = ⊎-elim round on (next-cases l i h)
-  where
-    parts : x / l * l + i ≡ x
-    parts = rw e (split l x)
-
-    round : (i + 1 ≡ l) × (nextBucket l i ≡ 0) → nextBucket l i ≡ (x + 1) % l
-    round c =
-        let s : suc (x / l) * l + 0 ≡ x + 1 = omega (arith, suc-mul (x / l) l, parts, c .0) in
-        c .1 ∙ sym (place-of l (suc (x / l)) 0 (omega arith)) ∙ ap (λ (y : ℕ). y % l) s
-
-    on : (i + 1 < l) × (nextBucket l i ≡ i + 1) → nextBucket l i ≡ (x + 1) % l
-    on c =
-        let s : x / l * l + (i + 1) ≡ x + 1 = omega (arith, parts) in
-        c .1 ∙ sym (place-of l (x / l) (i + 1) (c .0)) ∙ ap (λ (y : ℕ). y % l) s
+use Rattle.store.specs.Look.{Lent, walkOf, inOrder}
+use Rattle.brownout_faults.specs.Check.{vacant, recordIn, nameIn, goodIn, entries}
 
 -- ---- a walk, on any memory
 
@@ -223,7 +204,7 @@ module _ (st : State) (m : Lent) where
     -- a record found: in the bucket that the number of buckets looked at tells
     pub record FoundAt (x b : ℕ) : Type 0 where
       pub inside : b < st .buckets
-      pub looked-at : b ≡ lookedAt st name (walkOf st m name .looked)
+      pub looked-at : b ≡ inOrder st name (walkOf st m name .looked)
       pub full : vacant st m b ≡ false
       pub hashed : hashAt (m .table) (firstOf st + b) ≡ murmurHash2 (st .seed) name
       pub place : recordIn st m b ≡ x

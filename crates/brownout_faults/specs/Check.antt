@@ -18,7 +18,7 @@ use Rattle.expull.specs.Header.{blockSize, blockCount}
 use Rattle.expull.specs.Blocks.{blockPlace, goodBlocks}
 use Rattle.store.specs.declared.State.{State}
 use Rattle.store.specs.State.{wholeState, firstOf}
-use Rattle.store.specs.Look.{Lent, checked, walkOf, headerOf, headerSound}
+use Rattle.store.specs.Look.{Lent, checked, walkOf, headerOf, headerSound, inOrder}
 use Rattle.brownout_faults.specs.declared.Checked.{Checked}
 use Rattle.brownout_faults.specs.declared.Checked.the-variants.{Sound, Faulty, Miscounted, Refused}
 
@@ -64,15 +64,11 @@ foundMet n (Standing at) = ltb 0 n
 foundMet n Damaged = false
 foundMet n Lap = false
 
--- RULES AF6. The k-th bucket that a lookup looks at, counted from 1: the first is (hash + 1) mod L.
-abbrev pub lookedAt : State → List ℕ → ℕ → ℕ
-lookedAt st name k = (murmurHash2 (st .seed) name + k) % st .buckets
-
 -- RULES AF6. The lookup ends at its name, and in bucket i.
 unfoldable pub foundIn : State → Lent → List ℕ → ℕ → Bool
 unfolding walkOf murmurHash2
 foundIn st m name i =
-    foundMet (length name) (walkOf st m name .met) && eqb (lookedAt st name (walkOf st m name .looked)) i
+    foundMet (length name) (walkOf st m name .met) && eqb (inOrder st name (walkOf st m name .looked)) i
 
 -- ---- 4: "a header that the rules call damage"
 

@@ -30,13 +30,13 @@ use Rattle.expull.proofs.Laws.Header.{SoundHeader, sound-facts}
 use Rattle.expull.proofs.Laws.Blocks.{block-good}
 use Rattle.store.specs.declared.State.{State}
 use Rattle.store.specs.State.{firstOf}
-use Rattle.store.specs.Look.{Lent, checked, walkOf, headerOf, headerSound}
+use Rattle.store.specs.Look.{Lent, checked, walkOf, headerOf, headerSound, inOrder}
 use Rattle.store.proofs.Whole.{Whole, whole-facts, first-in}
 use Rattle.history_lanes.specs.Lane.{sizeOn}
 use Rattle.history_lanes.proofs.Blocks.{apart-sym}
 use Rattle.history_names.specs.Table.{Names, nameAt, Shows, Table}
 use Rattle.history_names.proofs.Walk.{clash, named-below}
-use Rattle.brownout_faults.specs.Check.{vacant, recordIn, nameIn, headerIn, foundMet, lookedAt, foundIn, blockIn}
+use Rattle.brownout_faults.specs.Check.{vacant, recordIn, nameIn, headerIn, foundMet, foundIn, blockIn}
 use Rattle.brownout_faults.specs.Check.{blockWide, tailGood, overlap, recordWide, recordMet, blockMet, laneMet}
 use Rattle.brownout_faults.specs.Check.{blocksMeet, overlapsIn, entries}
 use Rattle.brownout_faults.specs.Promises.{Faultless}
@@ -162,7 +162,7 @@ module _ (st : State) (m : Lent) (W : checked st m ≡ true) (F : Faultless st m
   g = namesFrom st m (st .buckets) 0
 
   abbrev place : List ℕ → ℕ
-  place k = recordIn st m (lookedAt st k (walkOf st m k .looked))
+  place k = recordIn st m (inOrder st k (walkOf st m k .looked))
 
   full-name : (i : ℕ) → i < st .buckets → vacant st m i ≡ false → nameAt g i ≡ some (nameIn st m i)
   full-name i h v = rw (zero-add i) at (name-full st m (st .buckets) 0 i h (rw (zero-add i) v))
@@ -177,7 +177,7 @@ module _ (st : State) (m : Lent) (W : checked st m ≡ true) (F : Faultless st m
     pub key : nameIn st m i ≡ k
     pub clean : Clean st m i
     pub some-byte : 0 < length k
-    pub looked : lookedAt st k (walkOf st m k .looked) ≡ i
+    pub looked : inOrder st k (walkOf st m k .looked) ≡ i
     pub stands : (x : ℕ) × (walkOf st m k .met ≡ Standing x)
     pub hashed : hashAt (m .table) (firstOf st + i) ≡ murmurHash2 (st .seed) k
     pub wide : recordWide st m i ≡ length k + recordExtra
@@ -189,10 +189,10 @@ module _ (st : State) (m : Lent) (W : checked st m ≡ true) (F : Faultless st m
       (omega (arith, good-record-in (st .«key_arena») (m .keys) (recordIn st m i) (whole .key-arena) (C .good)))
 
   found-parts : (k : List ℕ) (i : ℕ) → foundIn st m k i ≡ true
-      → (foundMet (length k) (walkOf st m k .met) ≡ true) × (lookedAt st k (walkOf st m k .looked) ≡ i)
+      → (foundMet (length k) (walkOf st m k .met) ≡ true) × (inOrder st k (walkOf st m k .looked) ≡ i)
   unfolding foundIn
   found-parts k i e =
-      let b = both (foundMet (length k) (walkOf st m k .met)) (eqb (lookedAt st k (walkOf st m k .looked)) i) e in
+      let b = both (foundMet (length k) (walkOf st m k .met)) (eqb (inOrder st k (walkOf st m k .looked)) i) e in
       (b .0, eqb-true _ _ (b .1))
 
   at-full : (i : ℕ) → i < st .buckets → vacant st m i ≡ false → At i (nameIn st m i)
@@ -201,7 +201,7 @@ module _ (st : State) (m : Lent) (W : checked st m ≡ true) (F : Faultless st m
       let k : List ℕ = nameIn st m i in
       let b = found-parts k i (C .found) in
       let f = found-met (length k) (walkOf st m k .met) (b .0) in
-      let l : lookedAt st k (walkOf st m k .looked) ≡ i = b .1 in
+      let l : inOrder st k (walkOf st m k .looked) ≡ i = b .1 in
       let r = walk-found st m some-bucket k (f .0) (f .1) in
       let e : r .0 ≡ i = r .1 .looked-at ∙ l in
       record {

@@ -248,7 +248,8 @@ pub extern "C" fn edge_append(
         size,
     );
     let r = store::write::append(st, table, keys, lists, name, bytes);
-    tell_appended(told, r);
+    let answer = r.answer;
+    tell_appended(told, answer);
 }
 
 #[no_mangle]
@@ -291,7 +292,8 @@ pub extern "C" fn edge_length(
         size,
     );
     let r = store::look::length(st, table, keys, lists, name);
-    tell_answer(told, r);
+    let answer = r.answer;
+    tell_answer(told, answer);
 }
 
 #[no_mangle]
@@ -336,7 +338,8 @@ pub extern "C" fn edge_read(
         size,
     );
     let r = store::look::read(st, table, keys, lists, name, output);
-    tell_answer(told, r);
+    let answer = r.answer;
+    tell_answer(told, answer);
 }
 
 // ---- the bare arena's

@@ -22,7 +22,7 @@ ghost use Rattle.spans.specs.Span.{readSpan, overwrite};
 ghost use Rattle.memory_arena.specs.Calls.{sensible};
 ghost use Rattle.shared_arena_hashmap.specs.Probe.{valuePlace};
 ghost use Rattle.expull.specs.Header.{fullBytes};
-ghost use Rattle.store.specs.Look.{lent};
+ghost use Rattle.store.specs.Look.{lent, lookedOf};
 ghost use Rattle.lane_pieces.specs.Piece.{blockHolding, notFound, out, pieceAt, pieceOf};
 ghost use Rattle.lane_pieces.specs.Onward.{goodOn, bytesOn, lastOn, Copyable, went, goneOn};
 ghost use Rattle.lane_pieces.specs.Onward.{Going, Within, Put};
@@ -33,6 +33,12 @@ pub enum Pieced {
     Absent,
     Given(u64),
     Refused(u32, u64),
+}
+
+// A piece's answer, and how many buckets its lookup looked at, as the store tells it.
+pub struct ToldPiece {
+    pub answer: Pieced,
+    pub walk: usize,
 }
 
 // The smaller of two numbers.
@@ -234,16 +240,26 @@ pub fn piece(
     name: &[u8],
     given: u64,
     output: &mut [u8],
-) -> Pieced
-    ensures settled { λ r. ⌜ out r (now (output .exit))
+) -> ToldPiece
+    ensures settled { λ r. ⌜ out (r .answer) (now (output .exit))
         ≡ pieceOf st (lent (now (table .entry)) (now (keys .entry)) (now (lists .entry))) (now (name .entry)) given
         (now (output .entry)) ⌝ }
-    ensures numbered { λ r. ⌜ permitted readingPiece (saidPieced r) ≡ true ⌝ }
+    ensures numbered { λ r. ⌜ permitted readingPiece (saidPieced (r .answer)) ≡ true ⌝ }
+    ensures walked { λ r. ⌜ r .walk
+        ≡ lookedOf st (lent (now (table .entry)) (now (keys .entry)) (now (lists .entry))) (now (name .entry)) ⌝ }
 {
     let arena = st.list_arena;
-    let found = store::look::lookup(st, table, keys, lists, name);
+    let looked = store::look::lookup(st, table, keys, lists, name);
+    let walk = looked.walk;
+    let found = looked.answer;
     let Lookup::At(at) = found else {
-        return not_found(found);
+        return ToldPiece {
+            answer: not_found(found),
+            walk,
+        };
     };
-    piece_at(arena, keys, lists, at, given, output)
+    ToldPiece {
+        answer: piece_at(arena, keys, lists, at, given, output),
+        walk,
+    }
 }

@@ -18,7 +18,7 @@ ghost use lib.ListN.{length};
 ghost use Rattle.limits.specs.Refusals.{readingPiece, permitted};
 ghost use Rattle.memory_arena.specs.Calls.{sensible};
 ghost use Rattle.shared_arena_hashmap.specs.Probe.{valuePlace};
-ghost use Rattle.store.specs.Look.{lent};
+ghost use Rattle.store.specs.Look.{lent, lookedOf};
 ghost use Rattle.lane_pieces.specs.Said.{saidPieced};
 ghost use Rattle.lane_pieces.specs.Onward.{Going};
 ghost use Rattle.lane_places.specs.PieceOn.{beginning, fitsLength, blockAt, outOf, goneFrom, pieceOnAt};
@@ -36,6 +36,12 @@ pub struct Place {
 pub struct Onward {
     pub answer: Pieced,
     pub place: Place,
+}
+
+// Both, and how many buckets the lookup looked at, as the store tells it.
+pub struct ToldOnward {
+    pub onward: Onward,
+    pub walk: usize,
 }
 
 // The place before a lane's first byte.
@@ -146,16 +152,26 @@ pub fn piece_on(
     name: &[u8],
     p: Place,
     output: &mut [u8],
-) -> Onward
-    ensures settled { λ r. ⌜ outOf r (now (output .exit))
+) -> ToldOnward
+    ensures settled { λ r. ⌜ outOf (r .onward) (now (output .exit))
         ≡ pieceOnOf st (lent (now (table .entry)) (now (keys .entry)) (now (lists .entry))) (now (name .entry)) p
         (now (output .entry)) ⌝ }
-    ensures numbered { λ r. ⌜ permitted readingPiece (saidPieced (r .answer)) ≡ true ⌝ }
+    ensures numbered { λ r. ⌜ permitted readingPiece (saidPieced (r .onward .answer)) ≡ true ⌝ }
+    ensures walked { λ r. ⌜ r .walk
+        ≡ lookedOf st (lent (now (table .entry)) (now (keys .entry)) (now (lists .entry))) (now (name .entry)) ⌝ }
 {
     let arena = st.list_arena;
-    let found = store::look::lookup(st, table, keys, lists, name);
+    let looked = store::look::lookup(st, table, keys, lists, name);
+    let walk = looked.walk;
+    let found = looked.answer;
     let Lookup::At(at) = found else {
-        return stays(lane_pieces::not_found(found), p);
+        return ToldOnward {
+            onward: stays(lane_pieces::not_found(found), p),
+            walk,
+        };
     };
-    piece_on_at(arena, keys, lists, at, p, output)
+    ToldOnward {
+        onward: piece_on_at(arena, keys, lists, at, p, output),
+        walk,
+    }
 }

@@ -9,10 +9,10 @@
 use expull::Header;
 use memory_arena::Arena;
 use reading_run::Run;
-use store::Appended;
 use store::Head;
 use store::Lookup;
 use store::State;
+use store::ToldAppend;
 ghost use mathlib.Core.Path.{_≡_};
 ghost use mathlib.Core.Bool.{true};
 ghost use Prim.Native.Nat.{_+_, _≤_};
@@ -23,7 +23,7 @@ ghost use Rattle.expull.specs.Header.{soundHeader, blockCount};
 ghost use Rattle.expull.specs.Blocks.{goodBlocks, laneBytes};
 ghost use Rattle.shared_arena_hashmap.specs.Probe.{valuePlace};
 ghost use Rattle.store.specs.Said.{saidAppended};
-ghost use Rattle.store.specs.Look.{lent};
+ghost use Rattle.store.specs.Look.{lent, lookedOf};
 ghost use Rattle.store.specs.Append.{out as appendedOut, appendOf};
 ghost use Rattle.reading_run.specs.Readings.{vintsOf};
 ghost use Rattle.reading_run.specs.Run.{out as runOut, begun, runOf, endOf};
@@ -35,6 +35,12 @@ pub enum Recalled {
     Readings(u64),
     Absent,
     Refused(u32, u64),
+}
+
+// A reading back's answer, and how many buckets its lookup looked at, as the store tells it.
+pub struct ToldReadings {
+    pub answer: Recalled,
+    pub walk: usize,
 }
 
 // ---- reading back
@@ -134,17 +140,27 @@ pub fn readings(
     lists: &[u8],
     name: &[u8],
     output: &mut [i32],
-) -> Recalled
-    ensures settled { λ r. ⌜ out r (now (output .exit))
+) -> ToldReadings
+    ensures settled { λ r. ⌜ out (r .answer) (now (output .exit))
         ≡ readingsOf st (lent (now (table .entry)) (now (keys .entry)) (now (lists .entry))) (now (name .entry))
         (now (output .entry)) ⌝ }
-    ensures numbered { λ r. ⌜ permitted readingReadings (saidRecalled r) ≡ true ⌝ }
+    ensures numbered { λ r. ⌜ permitted readingReadings (saidRecalled (r .answer)) ≡ true ⌝ }
+    ensures walked { λ r. ⌜ r .walk
+        ≡ lookedOf st (lent (now (table .entry)) (now (keys .entry)) (now (lists .entry))) (now (name .entry)) ⌝ }
 {
-    let found = store::look::lookup(st, table, keys, lists, name);
+    let looked = store::look::lookup(st, table, keys, lists, name);
+    let walk = looked.walk;
+    let found = looked.answer;
     let Lookup::At(at) = found else {
-        return not_found(found);
+        return ToldReadings {
+            answer: not_found(found),
+            walk,
+        };
     };
-    readings_at(st, table, keys, lists, at, output)
+    ToldReadings {
+        answer: readings_at(st, table, keys, lists, at, output),
+        walk,
+    }
 }
 
 // ---- a reading appended
@@ -158,12 +174,14 @@ fn append_front(
     name: &[u8],
     bytes: &[u8],
     n: usize,
-) -> Appended
+) -> ToldAppend
     requires { ⌜ n ≤ length (now bytes) ⌝ }
-    ensures settled { λ r. ⌜ appendedOut r (lent (now (table .exit)) (now (keys .exit)) (now (lists .exit)))
+    ensures settled { λ r. ⌜ appendedOut (r .answer) (lent (now (table .exit)) (now (keys .exit)) (now (lists .exit)))
         ≡ appendOf st (lent (now (table .entry)) (now (keys .entry)) (now (lists .entry))) (now (name .entry))
         (take n (now (bytes .entry))) ⌝ }
-    ensures numbered { λ r. ⌜ permitted appendingReading (saidAppended r) ≡ true ⌝ }
+    ensures numbered { λ r. ⌜ permitted appendingReading (saidAppended (r .answer)) ≡ true ⌝ }
+    ensures walked { λ r. ⌜ r .walk
+        ≡ lookedOf st (lent (now (table .entry)) (now (keys .entry)) (now (lists .entry))) (now (name .entry)) ⌝ }
 {
     store::write::append(st, table, keys, lists, name, &bytes[0..n])
 }
@@ -178,11 +196,13 @@ pub fn append_reading(
     name: &[u8],
     last: i32,
     new: i32,
-) -> Appended
-    ensures settled { λ r. ⌜ appendedOut r (lent (now (table .exit)) (now (keys .exit)) (now (lists .exit)))
+) -> ToldAppend
+    ensures settled { λ r. ⌜ appendedOut (r .answer) (lent (now (table .exit)) (now (keys .exit)) (now (lists .exit)))
         ≡ appendReadingOf st (lent (now (table .entry)) (now (keys .entry)) (now (lists .entry))) (now (name .entry))
         last new ⌝ }
-    ensures numbered { λ r. ⌜ permitted appendingReading (saidAppended r) ≡ true ⌝ }
+    ensures numbered { λ r. ⌜ permitted appendingReading (saidAppended (r .answer)) ≡ true ⌝ }
+    ensures walked { λ r. ⌜ r .walk
+        ≡ lookedOf st (lent (now (table .entry)) (now (keys .entry)) (now (lists .entry))) (now (name .entry)) ⌝ }
 {
     let d = signed::difference(last, new);
     let v = vint::serialize_vint_u32(signed::encode(d));

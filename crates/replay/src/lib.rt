@@ -79,7 +79,8 @@ fn play_entry(
         &script[name..name_end],
         &script[from..to],
     );
-    state_of(a)
+    let answer = a.answer;
+    state_of(answer)
 }
 
 // All entries, in order.

@@ -129,7 +129,8 @@ fn finish(st: State, table: &[u32], keys: &[u8], lists: &[u8], output: &mut [u8]
 
 fn go_on(st: State, table: &mut [u32], keys: &mut [u8], lists: &mut [u8], output: &mut [u8]) {
     let added = store::write::append(st, table, keys, lists, b"A", b"\x01\x02\x03");
-    let Appended::Accepted(next) = added else {
+    let answer = added.answer;
+    let Appended::Accepted(next) = answer else {
         return;
     };
     finish(next, table, keys, lists, output);

@@ -1,11 +1,11 @@
 -- Room in a table, by counting empty buckets: a probe finds an empty bucket wherever there is one, and a table that has
 -- grown has one left, whatever the words held. Assumes nothing.
-use Prim.Native.Nat.{ℕ, zero, suc, _+_, _*_, _≤_, _<_}
+use Prim.Native.Nat.{ℕ, zero, suc, _+_, _*_, _/_, _%_, _≤_, _<_}
 use mathlib.Core.Path.{_≡_, refl, sym, ap, _∙_}
 use mathlib.Core.Logic.{_⊎_, inl, inr, ⊎-elim, _≢_}
 use mathlib.Core.Bool.{Bool, true, false, cond, false≢true}
 use mathlib.Core.List.{List}
-use native.Mathlib.Nat.{add-zero, mod-lt}
+use native.Mathlib.Nat.{add-zero, mod-lt, suc-mul}
 use native.Mathlib.Decide.{ℕ-discrete, decLe}
 use native.Mathlib.Omega.{arith}
 use lib.Dec.{eqb}
@@ -15,6 +15,7 @@ use Rattle.limits.specs.Limits.{nullAddress}
 use Rattle.shared_arena_hashmap.specs.Buckets.{addressAt, hashAt, emptyAt, withBucket, cleared}
 use Rattle.fastcmp.specs.Equal.{equalBytes}
 use Rattle.memory_arena.specs.declared.Arena.{Arena}
+use Rattle.memory_arena.proofs.Laws.{split, place-of}
 use Rattle.shared_arena_hashmap.specs.declared.Seen.{Seen}
 use Rattle.shared_arena_hashmap.specs.declared.Seen.the-variants.{Nothing, Same, Broken, Other}
 use Rattle.shared_arena_hashmap.specs.declared.Met.the-variants.{Empty}
@@ -58,6 +59,23 @@ next-cases l i h = go (eqb (i + 1) l) refl
         → ((i + 1 ≡ l) × (cond b 0 (i + 1) ≡ 0)) ⊎ ((i + 1 < l) × (cond b 0 (i + 1) ≡ i + 1))
     go true e = inl (eqb-true (i + 1) l e, refl)
     go false e = let n : i + 1 ≢ l = eqb-false (i + 1) l e in inr (omega arith, refl)
+
+-- a bucket told by a remainder, and the next
+pub next-mod : (l x i : ℕ) → i < l → i ≡ x % l → nextBucket l i ≡ (x + 1) % l
+next-mod l x i h e = ⊎-elim round on (next-cases l i h)
+  where
+    parts : x / l * l + i ≡ x
+    parts = rw e (split l x)
+
+    round : (i + 1 ≡ l) × (nextBucket l i ≡ 0) → nextBucket l i ≡ (x + 1) % l
+    round c =
+        let s : suc (x / l) * l + 0 ≡ x + 1 = omega (arith, suc-mul (x / l) l, parts, c .0) in
+        c .1 ∙ sym (place-of l (suc (x / l)) 0 (omega arith)) ∙ ap (λ (y : ℕ). y % l) s
+
+    on : (i + 1 < l) × (nextBucket l i ≡ i + 1) → nextBucket l i ≡ (x + 1) % l
+    on c =
+        let s : x / l * l + (i + 1) ≡ x + 1 = omega (arith, parts) in
+        c .1 ∙ sym (place-of l (x / l) (i + 1) (c .0)) ∙ ap (λ (y : ℕ). y % l) s
 
 pub next-below : (l i : ℕ) → i < l → nextBucket l i < l
 next-below l i h = ⊎-elim (λ c. omega (arith, c .1)) (λ c. omega (arith, c .0, c .1)) (next-cases l i h)

@@ -37,7 +37,7 @@ use Rattle.store.proofs.Lookup.{the-type}
 use Rattle.store.specs.declared.Answer.{Answer}
 use Rattle.store.specs.declared.Answer.the-variants.{Found, Refused}
 use Rattle.store.specs.declared.Outcome.the-variants.{Length, Reading}
-use Rattle.store.specs.Look.{Lent, checked, walkOf, onMet, lookupOf, onLookup, onLookupRead, notFound, headerOf, headerSound, headOf, lengthAt, lengthOf, reading, blocksSound, readAt, readOf, onBlock, blockAt, findBlockOf, onNext, nextOf, showOf, countOf}
+use Rattle.store.specs.Look.{Lent, checked, walkOf, onMet, lookupOf, lookedOf, onLookup, onLookupRead, notFound, headerOf, headerSound, headOf, lengthAt, lengthOf, reading, blocksSound, readAt, readOf, onBlock, blockAt, findBlockOf, onNext, nextOf, showOf, countOf}
 use Rattle.store.proofs.Whole.{whole-facts}
 
 -- ---- lookup
@@ -59,6 +59,24 @@ module _ (st : State) (m : Lent) (name : List ℕ) where
       → lookupOf st m name ≡ onMet x
   unfolding lookupOf
   lookup-met x e k w = rw (e, k, w)
+
+  -- and how many buckets were looked at
+  pub looked-2 : checked st m ≡ false → lookedOf st m name ≡ 0
+  unfolding lookedOf
+  looked-2 e = rw e
+
+  pub looked-3 : checked st m ≡ true → nameKind st (length name) ≡ TooLong → lookedOf st m name ≡ 0
+  unfolding lookedOf
+  looked-3 e k = rw (e, k)
+
+  pub looked-nameless : checked st m ≡ true → nameKind st (length name) ≡ Nameless → lookedOf st m name ≡ 0
+  unfolding lookedOf
+  looked-nameless e k = rw (e, k)
+
+  pub looked-walk : checked st m ≡ true → nameKind st (length name) ≡ Proper
+      → lookedOf st m name ≡ walkOf st m name .looked
+  unfolding lookedOf
+  looked-walk e k = rw (e, k)
 
 -- what is known of a store and a place in it once a lookup has answered with that place
 pub record Held (st : State) (m : Lent) (at : ℕ) : Type 0 where

@@ -1,7 +1,7 @@
 -- RULES V1 to V9. The calls that change nothing but a lent output: lookup, length, reading, a block found and shown,
 -- listing, the number of keys. Each makes the whole-state check first (2), then those by name ask the guard (3, or
 -- absent for the empty name), then they look the name up (4, or absent).
-use Prim.Native.Nat.{ℕ, _-_}
+use Prim.Native.Nat.{ℕ, _+_, _-_, _%_}
 use mathlib.Core.Bool.{Bool, cond, _&&_}
 use mathlib.Core.List.{List, []}
 use lib.Dec.{leb}
@@ -71,6 +71,16 @@ lookupOf st m name =
     cond (checked st m)
     (byKind (nameKind st (length name)) (Failed 3) Missing (onMet (walkOf st m name .met)))
     (Failed 2)
+
+-- RULES N6. The bucket in place k of a name's probe order, counted from 1.
+abbrev pub inOrder : State → List ℕ → ℕ → ℕ
+inOrder st name k = (murmurHash2 (st .seed) name + k) % st .buckets
+
+-- RULES V15. How many buckets a call by name looks at, the last one included, in the table before any growth: none
+-- where it is refused before its lookup, or given the empty name.
+unfoldable pub lookedOf : State → Lent → List ℕ → ℕ
+unfolding wholeState nameKind walkOf
+lookedOf st m name = cond (checked st m) (byKind (nameKind st (length name)) 0 0 (walkOf st m name .looked)) 0
 
 -- ---- the calls on a standing lane's list
 

@@ -77,6 +77,25 @@ pub enum Answer {
     Refused(u32, u64),
 }
 
+// Beside each answer by name stands the walk: how many buckets the call's lookup looked at, the last one included, and 0
+// where the call was refused before its lookup or given the empty name (document 02, Ten).
+pub struct ToldLookup {
+    pub answer: Lookup,
+    pub walk: usize,
+}
+
+// The same of a call on a standing lane's list.
+pub struct ToldAnswer {
+    pub answer: Answer,
+    pub walk: usize,
+}
+
+// The same of an append: its walk is the one before any growth.
+pub struct ToldAppend {
+    pub answer: Appended,
+    pub walk: usize,
+}
+
 // A listing's answer: the next occupied bucket and its record's place, none, or a refusal.
 pub enum Listed {
     Bucket(usize, u32),

@@ -7,6 +7,8 @@ use crate::Lookup;
 use crate::Name;
 use crate::Outcome;
 use crate::State;
+use crate::ToldAnswer;
+use crate::ToldLookup;
 use expull::Block;
 use memory_arena::Arena;
 use shared_arena_hashmap::Met;
@@ -21,8 +23,8 @@ ghost use Rattle.limits.specs.Refusals.{countingKeys, permitted};
 ghost use Rattle.memory_arena.specs.Calls.{sensible};
 ghost use Rattle.shared_arena_hashmap.specs.Probe.{valuePlace};
 ghost use Rattle.store.specs.Said.{saidLookup, saidAnswer, saidListed, saidCounted};
-ghost use Rattle.store.specs.Look.{lent, onMet, lookupOf, notFound, lengthAt, lengthOf, reading, readAt};
-ghost use Rattle.store.specs.Look.{readOf, onBlock, blockAt, findBlockOf, showOf, onNext, nextOf, countOf};
+ghost use Rattle.store.specs.Look.{lent, onMet, lookupOf, lookedOf, notFound, lengthAt, lengthOf};
+ghost use Rattle.store.specs.Look.{reading, readAt, readOf, onBlock, blockAt, findBlockOf, showOf, onNext, nextOf, countOf};
 
 fn on_met(met: Met) -> Lookup
     ensures { λ r. ⌜ r ≡ onMet met ⌝ }
@@ -36,22 +38,36 @@ fn on_met(met: Met) -> Lookup
 }
 
 // The place of a name's record, or absent; the empty name is absent, and isn't looked up.
-pub fn lookup(st: State, table: &[u32], keys: &[u8], lists: &[u8], name: &[u8]) -> Lookup
-    ensures settled { λ r. ⌜ r
+pub fn lookup(st: State, table: &[u32], keys: &[u8], lists: &[u8], name: &[u8]) -> ToldLookup
+    ensures settled { λ r. ⌜ r .answer
         ≡ lookupOf st (lent (now (table .entry)) (now (keys .entry)) (now (lists .entry))) (now (name .entry)) ⌝ }
-    ensures numbered { λ r. ⌜ permitted lookingUp (saidLookup r) ≡ true ⌝ }
+    ensures numbered { λ r. ⌜ permitted lookingUp (saidLookup (r .answer)) ≡ true ⌝ }
+    ensures walked { λ r. ⌜ r .walk
+        ≡ lookedOf st (lent (now (table .entry)) (now (keys .entry)) (now (lists .entry))) (now (name .entry)) ⌝ }
 {
     if !crate::check::is_whole_state(st, table.len(), keys.len(), lists.len()) {
-        return Lookup::Failed(2);
+        return ToldLookup {
+            answer: Lookup::Failed(2),
+            walk: 0,
+        };
     }
     let kind = crate::name_kind(st, name.len());
     match kind {
-        Name::TooLong => Lookup::Failed(3),
-        Name::Nameless => Lookup::Missing,
+        Name::TooLong => ToldLookup {
+            answer: Lookup::Failed(3),
+            walk: 0,
+        },
+        Name::Nameless => ToldLookup {
+            answer: Lookup::Missing,
+            walk: 0,
+        },
         Name::Proper => {
             let w = crate::walk(st, table, keys, lists, name);
             let met = w.met;
-            on_met(met)
+            ToldLookup {
+                answer: on_met(met),
+                walk: w.looked,
+            }
         }
     }
 }
@@ -80,16 +96,26 @@ fn length_at(keys: &[u8], at: u32) -> Answer
 }
 
 // A lane's length.
-pub fn length(st: State, table: &[u32], keys: &[u8], lists: &[u8], name: &[u8]) -> Answer
-    ensures settled { λ r. ⌜ r
+pub fn length(st: State, table: &[u32], keys: &[u8], lists: &[u8], name: &[u8]) -> ToldAnswer
+    ensures settled { λ r. ⌜ r .answer
         ≡ lengthOf st (lent (now (table .entry)) (now (keys .entry)) (now (lists .entry))) (now (name .entry)) ⌝ }
-    ensures numbered { λ r. ⌜ permitted measuring (saidAnswer r) ≡ true ⌝ }
+    ensures numbered { λ r. ⌜ permitted measuring (saidAnswer (r .answer)) ≡ true ⌝ }
+    ensures walked { λ r. ⌜ r .walk
+        ≡ lookedOf st (lent (now (table .entry)) (now (keys .entry)) (now (lists .entry))) (now (name .entry)) ⌝ }
 {
-    let found = lookup(st, table, keys, lists, name);
+    let looked = lookup(st, table, keys, lists, name);
+    let walk = looked.walk;
+    let found = looked.answer;
     let Lookup::At(at) = found else {
-        return not_found(found);
+        return ToldAnswer {
+            answer: not_found(found),
+            walk,
+        };
     };
-    length_at(keys, at)
+    ToldAnswer {
+        answer: length_at(keys, at),
+        walk,
+    }
 }
 
 // A standing lane's reading, through its own record. All blocks are met before the output's length matters, and that
@@ -130,17 +156,27 @@ pub fn read(
     lists: &[u8],
     name: &[u8],
     output: &mut [u8],
-) -> Answer
-    ensures settled { λ r. ⌜ reading r (now (output .exit))
+) -> ToldAnswer
+    ensures settled { λ r. ⌜ reading (r .answer) (now (output .exit))
         ≡ readOf st (lent (now (table .entry)) (now (keys .entry)) (now (lists .entry))) (now (name .entry))
         (now (output .entry)) ⌝ }
-    ensures numbered { λ r. ⌜ permitted readingLane (saidAnswer r) ≡ true ⌝ }
+    ensures numbered { λ r. ⌜ permitted readingLane (saidAnswer (r .answer)) ≡ true ⌝ }
+    ensures walked { λ r. ⌜ r .walk
+        ≡ lookedOf st (lent (now (table .entry)) (now (keys .entry)) (now (lists .entry))) (now (name .entry)) ⌝ }
 {
-    let found = lookup(st, table, keys, lists, name);
+    let looked = lookup(st, table, keys, lists, name);
+    let walk = looked.walk;
+    let found = looked.answer;
     let Lookup::At(at) = found else {
-        return not_found(found);
+        return ToldAnswer {
+            answer: not_found(found),
+            walk,
+        };
     };
-    read_at(st, table, keys, lists, at, output)
+    ToldAnswer {
+        answer: read_at(st, table, keys, lists, at, output),
+        walk,
+    }
 }
 
 fn on_block(b: Block) -> Answer
@@ -173,17 +209,27 @@ pub fn find_block(
     lists: &[u8],
     name: &[u8],
     index: usize,
-) -> Answer
-    ensures settled { λ r. ⌜ r
+) -> ToldAnswer
+    ensures settled { λ r. ⌜ r .answer
         ≡ findBlockOf st (lent (now (table .entry)) (now (keys .entry)) (now (lists .entry)))
         (now (name .entry)) index ⌝ }
-    ensures numbered { λ r. ⌜ permitted findingBlock (saidAnswer r) ≡ true ⌝ }
+    ensures numbered { λ r. ⌜ permitted findingBlock (saidAnswer (r .answer)) ≡ true ⌝ }
+    ensures walked { λ r. ⌜ r .walk
+        ≡ lookedOf st (lent (now (table .entry)) (now (keys .entry)) (now (lists .entry))) (now (name .entry)) ⌝ }
 {
-    let found = lookup(st, table, keys, lists, name);
+    let looked = lookup(st, table, keys, lists, name);
+    let walk = looked.walk;
+    let found = looked.answer;
     let Lookup::At(at) = found else {
-        return not_found(found);
+        return ToldAnswer {
+            answer: not_found(found),
+            walk,
+        };
     };
-    block_at(st, table, keys, lists, at, index)
+    ToldAnswer {
+        answer: block_at(st, table, keys, lists, at, index),
+        walk,
+    }
 }
 
 // A good span of the list pages, shown as a part of them; the empty part otherwise.

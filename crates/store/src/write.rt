@@ -3,6 +3,7 @@ use crate::Appended;
 use crate::Head;
 use crate::Name;
 use crate::State;
+use crate::ToldAppend;
 use expull::Header;
 use memory_arena::Allocated;
 use memory_arena::Arena;
@@ -23,7 +24,7 @@ ghost use Rattle.expull.specs.Append.{writing, appended};
 ghost use Rattle.store.specs.Said.{saidAppended};
 ghost use Rattle.store.specs.State.{firstOf};
 ghost use Rattle.store.specs.Name.{nameLimitOf};
-ghost use Rattle.store.specs.Look.{lent, checked, walkOf};
+ghost use Rattle.store.specs.Look.{lent, checked, walkOf, lookedOf};
 ghost use Rattle.store.specs.Append.{out, roomToGrow, isSaturated, isCrowded, grownState, stateGrown, tableGrown, movedState, appendStanding, Planned, standingWritten, recordBytes, newWritten, appendNew, onMet, appendOf};
 
 fn is_saturated(st: State) -> bool
@@ -245,6 +246,31 @@ fn append_after_lap(
 }
 
 // An append to a name that passed the guard, by what its lookup met.
+fn append_met(
+    st: State,
+    table: &mut [u32],
+    keys: &mut [u8],
+    lists: &mut [u8],
+    name: &[u8],
+    bytes: &[u8],
+    met: Met,
+) -> Appended
+    requires { ⌜ (checked st (lent (now table) (now keys) (now lists)) ≡ true)
+        × (length (now name) ≤ nameLimitOf st) ⌝ }
+    requires { ⌜ walkOf st (lent (now table) (now keys) (now lists)) (now name) .met ≡ met ⌝ }
+    ensures { λ r. ⌜ out r (lent (now (table .exit)) (now (keys .exit)) (now (lists .exit)))
+        ≡ onMet met st (lent (now (table .entry)) (now (keys .entry)) (now (lists .entry))) (now (name .entry))
+        (now (bytes .entry)) ⌝ }
+{
+    match met {
+        Met::Damaged => Appended::Declined(st, 4),
+        Met::Standing(at) => append_standing(st, table, keys, lists, at, bytes),
+        Met::Empty => append_new(st, table, keys, lists, name, bytes),
+        Met::Lap => append_after_lap(st, table, keys, lists, name, bytes),
+    }
+}
+
+// An append to a name that passed the guard: its lookup, and then what that met.
 fn append_proper(
     st: State,
     table: &mut [u32],
@@ -252,22 +278,23 @@ fn append_proper(
     lists: &mut [u8],
     name: &[u8],
     bytes: &[u8],
-) -> Appended
+) -> ToldAppend
     requires { ⌜ (checked st (lent (now table) (now keys) (now lists)) ≡ true)
         × (length (now name) ≤ nameLimitOf st) ⌝ }
-    ensures { λ r. ⌜ out r (lent (now (table .exit)) (now (keys .exit)) (now (lists .exit)))
+    ensures settled { λ r. ⌜ out (r .answer) (lent (now (table .exit)) (now (keys .exit)) (now (lists .exit)))
         ≡ onMet
         (walkOf st (lent (now (table .entry)) (now (keys .entry)) (now (lists .entry))) (now (name .entry)) .met)
         st (lent (now (table .entry)) (now (keys .entry)) (now (lists .entry))) (now (name .entry))
         (now (bytes .entry)) ⌝ }
+    ensures walked { λ r. ⌜ r .walk
+        ≡ walkOf st (lent (now (table .entry)) (now (keys .entry)) (now (lists .entry))) (now (name .entry)) .looked ⌝ }
 {
     let w = crate::walk(st, table, keys, lists, name);
     let met = w.met;
-    match met {
-        Met::Damaged => Appended::Declined(st, 4),
-        Met::Standing(at) => append_standing(st, table, keys, lists, at, bytes),
-        Met::Empty => append_new(st, table, keys, lists, name, bytes),
-        Met::Lap => append_after_lap(st, table, keys, lists, name, bytes),
+    let answer = append_met(st, table, keys, lists, name, bytes, met);
+    ToldAppend {
+        answer,
+        walk: w.looked,
     }
 }
 
@@ -279,19 +306,30 @@ pub fn append(
     lists: &mut [u8],
     name: &[u8],
     bytes: &[u8],
-) -> Appended
-    ensures settled { λ r. ⌜ out r (lent (now (table .exit)) (now (keys .exit)) (now (lists .exit)))
+) -> ToldAppend
+    ensures settled { λ r. ⌜ out (r .answer) (lent (now (table .exit)) (now (keys .exit)) (now (lists .exit)))
         ≡ appendOf st (lent (now (table .entry)) (now (keys .entry)) (now (lists .entry))) (now (name .entry))
         (now (bytes .entry)) ⌝ }
-    ensures numbered { λ r. ⌜ permitted appending (saidAppended r) ≡ true ⌝ }
+    ensures numbered { λ r. ⌜ permitted appending (saidAppended (r .answer)) ≡ true ⌝ }
+    ensures walked { λ r. ⌜ r .walk
+        ≡ lookedOf st (lent (now (table .entry)) (now (keys .entry)) (now (lists .entry))) (now (name .entry)) ⌝ }
 {
     if !crate::check::is_whole_state(st, table.len(), keys.len(), lists.len()) {
-        return Appended::Declined(st, 2);
+        return ToldAppend {
+            answer: Appended::Declined(st, 2),
+            walk: 0,
+        };
     }
     let kind = crate::name_kind(st, name.len());
     match kind {
-        Name::TooLong => Appended::Declined(st, 3),
-        Name::Nameless => Appended::Declined(st, 13),
+        Name::TooLong => ToldAppend {
+            answer: Appended::Declined(st, 3),
+            walk: 0,
+        },
+        Name::Nameless => ToldAppend {
+            answer: Appended::Declined(st, 13),
+            walk: 0,
+        },
         Name::Proper => append_proper(st, table, keys, lists, name, bytes),
     }
 }

@@ -4,7 +4,7 @@ use script::rows;
 // A row a command: its number, then how it is written. The tens of the number say whose `play` has its arm: 1
 // bench_write, 2 bench_read, 3 bench_state, 4 bench_areas, 5 bench_lower, 6 bench_report, 7 bench_readings, 8
 // bench_pieces, 9 bench_check; those below 10 are this program's.
-const TABLE: [u8; 684] = *b"1 lend WORDS KEYBYTES LISTBYTES HH
+const TABLE: [u8; 691] = *b"1 lend WORDS KEYBYTES LISTBYTES HH
 10 create CAPACITY SEED [SIZE]
 11 append NAME BYTES
 20 lookup NAME
@@ -36,6 +36,7 @@ const TABLE: [u8; 684] = *b"1 lend WORDS KEYBYTES LISTBYTES HH
 80 piece NAME GIVEN ROOM
 81 feed COUNT HELD FED PIECE ROOM END
 90 check MARKBYTES HH
+3 walk
 ";
 
 // The number of the command that a line is, 0 where it can't be played.

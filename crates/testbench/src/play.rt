@@ -1,11 +1,14 @@
 // The lines, played on the lent areas.
 use crate::commands;
+use bench_state::Played;
 use script::lines;
 use store::State;
 
-// What the testbench remembers between lines: the store's state, and how much of each area is lent.
+// What the testbench remembers between lines: the store's state, the walk that the last call by name told, and how much
+// of each area is lent.
 struct Bench {
     st: State,
+    walk: usize,
     words: usize,
     key_bytes: usize,
     list_bytes: usize,
@@ -14,6 +17,7 @@ struct Bench {
 fn fresh() -> Bench {
     Bench {
         st: bench_state::zeros(),
+        walk: 0,
         words: 0,
         key_bytes: 0,
         list_bytes: 0,
@@ -30,14 +34,15 @@ fn lend(b: Bench, line: &[u8], table: &mut [u32], keys: &mut [u8], lists: &mut [
     say::line(b"lent");
     Bench {
         st: bench_state::zeros(),
+        walk: 0,
         words: p.words,
         key_bytes: p.key_bytes,
         list_bytes: p.list_bytes,
     }
 }
 
-// A command that leaves the state as it is.
-fn play_same(
+// A command that leaves the state as it is, and is no call by name.
+fn play_other(
     k: u64,
     st: State,
     line: &[u8],
@@ -46,22 +51,43 @@ fn play_same(
     lists: &mut [u8],
     name: &mut [u8],
     output: &mut [u8],
-    numbers: &mut [u32],
 ) {
     match k / 10 {
-        2 => bench_read::play(k, st, line, table, keys, lists, name, output),
         4 => bench_areas::play(k, st, line, table, keys, lists, name, output),
         5 => bench_lower::play(k, line, lists, name, output),
         6 => bench_report::play(k, st, line, table, keys, lists, name, output),
-        8 => bench_pieces::play(k, st, line, table, keys, lists, name, output, numbers),
         9 => bench_check::play(k, st, line, table, keys, lists, name, output),
         _ => commands::help(),
     }
 }
 
-// The command of a number, on the lent areas: the state afterwards.
+// A command that leaves the state as it is: the walk that the last call by name told.
+fn play_same(
+    k: u64,
+    walk: usize,
+    st: State,
+    line: &[u8],
+    table: &mut [u32],
+    keys: &mut [u8],
+    lists: &mut [u8],
+    name: &mut [u8],
+    output: &mut [u8],
+    numbers: &mut [u32],
+) -> usize {
+    if k / 10 == 2 {
+        return bench_read::play(k, walk, st, line, table, keys, lists, name, output);
+    }
+    if k / 10 == 8 {
+        return bench_pieces::play(k, walk, st, line, table, keys, lists, name, output, numbers);
+    }
+    play_other(k, st, line, table, keys, lists, name, output);
+    walk
+}
+
+// The command of a number, on the lent areas: what it leaves.
 fn play(
     k: u64,
+    walk: usize,
     st: State,
     line: &[u8],
     table: &mut [u32],
@@ -71,23 +97,26 @@ fn play(
     output: &mut [u8],
     places: &mut [i32],
     numbers: &mut [u32],
-) -> State {
+) -> Played {
     if k / 10 == 1 {
-        return bench_write::play(k, st, line, table, keys, lists, name, output);
+        return bench_write::play(k, walk, st, line, table, keys, lists, name, output);
     }
     if k / 10 == 3 {
-        return bench_state::play(k, st, line);
+        let set = bench_state::play(k, st, line);
+        return Played { st: set, walk };
     }
     if k / 10 == 7 {
-        return bench_readings::play(k, st, line, table, keys, lists, name, places);
+        return bench_readings::play(k, walk, st, line, table, keys, lists, name, places);
     }
-    play_same(k, st, line, table, keys, lists, name, output, numbers);
-    st
+    let told = play_same(k, walk, st, line, table, keys, lists, name, output, numbers);
+    Played { st, walk: told }
 }
 
-fn with_state(b: Bench, st: State) -> Bench {
+fn with_played(b: Bench, played: Played) -> Bench {
+    let st = played.st;
     let mut next = b;
     next.st = st;
+    next.walk = played.walk;
     next
 }
 
@@ -105,11 +134,13 @@ fn play_lent(
     numbers: &mut [u32],
 ) -> Bench {
     let st = b.st;
+    let walk = b.walk;
     let words = text::least(b.words, table.len());
     let key_bytes = text::least(b.key_bytes, keys.len());
     let list_bytes = text::least(b.list_bytes, lists.len());
     let next = play(
         k,
+        walk,
         st,
         line,
         &mut table[0..words],
@@ -120,7 +151,7 @@ fn play_lent(
         places,
         numbers,
     );
-    with_state(b, next)
+    with_played(b, next)
 }
 
 // A line of any kind.
@@ -143,6 +174,10 @@ fn play_line(
     }
     if k == 1 {
         return lend(b, line, table, keys, lists);
+    }
+    if k == 3 {
+        say::number(b"walk ", b.walk as u64);
+        return b;
     }
     play_lent(
         b,

@@ -33,8 +33,11 @@ returns c =
     ∙ piece-not (a .st) m (a .name .now) (a .given) (a .output .now) _ (c .before .before .lookup .ensures .0)
     (c .before .match .keys2) in (
       e,
-      subst (λ (r : Out). permitted readingPiece (saidPieced (r .answer)) ≡ true) (sym e)
-          (fair-piece (a .st) m (a .name .now) (a .given) (a .output .now) .numbered),
+      (
+        subst (λ (r : Out). permitted readingPiece (saidPieced (r .answer)) ≡ true) (sym e)
+            (fair-piece (a .st) m (a .name .now) (a .given) (a .output .now) .numbered),
+        c .before .before .lookup .ensures .1 .1,
+      ),
     )
 
 piece-at-requires : tie.Need-piece-at-requires
@@ -57,8 +60,11 @@ returns-2 c =
     ∙ sym (piece-looked (a .st) m (a .name .now) (a .given) (a .output .now) (At _)
     (sym (k .before .before .lookup .ensures .0) ∙ k .found .given .1)) in (
       e,
-      subst (λ (r : Out). permitted readingPiece (saidPieced (r .answer)) ≡ true) (sym e)
-          (fair-piece (a .st) m (a .name .now) (a .given) (a .output .now) .numbered),
+      (
+        subst (λ (r : Out). permitted readingPiece (saidPieced (r .answer)) ≡ true) (sym e)
+            (fair-piece (a .st) m (a .name .now) (a .given) (a .output .now) .numbered),
+        k .before .before .lookup .ensures .1 .1,
+      ),
     )
 
 pub piece-spec : {M : Type 1} → statement M

@@ -36,8 +36,11 @@ returns c =
     let e = (λ i. out (r i) (c .stays .ensures .1 i) (a .output .now))
     ∙ on-not (a .st) m (a .name .now) (a .p) (a .output .now) _ (k .before .lookup .ensures .0) (k .match .keys2) in (
       e,
-      subst (λ (r : Out). permitted readingPiece (saidPieced (r .answer)) ≡ true) (sym e)
-          (fair-on (a .st) m (a .name .now) (a .p) (a .output .now) .numbered),
+      (
+        subst (λ (r : Out). permitted readingPiece (saidPieced (r .answer)) ≡ true) (sym e)
+            (fair-on (a .st) m (a .name .now) (a .p) (a .output .now) .numbered),
+        k .before .lookup .ensures .1 .1,
+      ),
     )
 
 piece-on-at-requires : tie.Need-piece-on-at-requires
@@ -61,8 +64,11 @@ returns-2 c =
     ∙ sym (on-looked (a .st) m (a .name .now) (a .p) (a .output .now) (At _)
     (sym (k .before .before .lookup .ensures .0) ∙ k .found .given .1)) in (
       e,
-      subst (λ (r : Out). permitted readingPiece (saidPieced (r .answer)) ≡ true) (sym e)
-          (fair-on (a .st) m (a .name .now) (a .p) (a .output .now) .numbered),
+      (
+        subst (λ (r : Out). permitted readingPiece (saidPieced (r .answer)) ≡ true) (sym e)
+            (fair-on (a .st) m (a .name .now) (a .p) (a .output .now) .numbered),
+        k .before .before .lookup .ensures .1 .1,
+      ),
     )
 
 pub piece-on-spec : {M : Type 1} → statement M

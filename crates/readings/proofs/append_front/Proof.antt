@@ -39,7 +39,10 @@ returns c =
     let z : a .n - 0 ≡ a .n = omega arith in
     let m = lent (a .table .now) (a .keys .now) (a .lists .now) in (
       d .append .ensures .0 ∙ ap (λ (k : ℕ). appendOf (a .st) m (a .name .now) (take k (a .bytes .now))) z,
-      sym (same-numbers (saidAppended (d .append .result))) ∙ d .append .ensures .1,
+      (
+        sym (same-numbers (saidAppended (d .append .result .answer))) ∙ d .append .ensures .1 .0,
+        d .append .ensures .1 .1,
+      ),
     )
 
 pub append-front-spec : {M : Type 1} → statement M

@@ -31,8 +31,11 @@ returns c =
     ∙ readings-not (a .st) m (a .name .now) (a .output .now) _ (c .before .before .lookup .ensures .0)
     (c .before .match .keys2) in (
       e,
-      subst (λ (r : Out). permitted readingReadings (saidRecalled (r .answer)) ≡ true) (sym e)
-          (fair-readings (a .st) m (a .name .now) (a .output .now) .numbered),
+      (
+        subst (λ (r : Out). permitted readingReadings (saidRecalled (r .answer)) ≡ true) (sym e)
+            (fair-readings (a .st) m (a .name .now) (a .output .now) .numbered),
+        c .before .before .lookup .ensures .1 .1,
+      ),
     )
 
 readings-at-requires : tie.Need-readings-at-requires
@@ -56,8 +59,11 @@ returns-2 c =
     (sym (c .before .before .before .before .before .before .lookup .ensures .0)
     ∙ c .before .before .before .before .found .given .1)) in (
       e,
-      subst (λ (r : Out). permitted readingReadings (saidRecalled (r .answer)) ≡ true) (sym e)
-          (fair-readings (a .st) m (a .name .now) (a .output .now) .numbered),
+      (
+        subst (λ (r : Out). permitted readingReadings (saidRecalled (r .answer)) ≡ true) (sym e)
+            (fair-readings (a .st) m (a .name .now) (a .output .now) .numbered),
+        c .before .before .before .before .before .before .lookup .ensures .1 .1,
+      ),
     )
 
 pub readings-spec : {M : Type 1} → statement M

@@ -30,8 +30,11 @@ returns c =
     ∙ block-not (a .st) m (a .name .now) (a .index) _ (c .before .before .lookup .ensures .0)
     (c .before .match .keys2) in (
       e,
-      subst (λ (r : Answer). permitted findingBlock (saidAnswer r) ≡ true) (sym e)
-          (fair-block (a .st) m (a .name .now) (a .index)),
+      (
+        subst (λ (r : Answer). permitted findingBlock (saidAnswer r) ≡ true) (sym e)
+            (fair-block (a .st) m (a .name .now) (a .index)),
+        c .before .before .lookup .ensures .1 .1,
+      ),
     )
 
 block-at-requires : tie.Need-block-at-requires
@@ -48,8 +51,11 @@ returns-2 c =
     ∙ block-at (a .st) m (a .name .now) (a .index) _
     (sym (c .before .before .before .before .lookup .ensures .0) ∙ c .before .before .found .given .1) in (
       e,
-      subst (λ (r : Answer). permitted findingBlock (saidAnswer r) ≡ true) (sym e)
-          (fair-block (a .st) m (a .name .now) (a .index)),
+      (
+        subst (λ (r : Answer). permitted findingBlock (saidAnswer r) ≡ true) (sym e)
+            (fair-block (a .st) m (a .name .now) (a .index)),
+        c .before .before .before .before .lookup .ensures .1 .1,
+      ),
     )
 
 pub find-block-spec : {M : Type 1} → statement M

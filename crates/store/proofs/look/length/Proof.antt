@@ -27,8 +27,11 @@ returns c =
     let e = c .not-found .ensures
     ∙ length-not (a .st) m (a .name .now) _ (c .before .before .lookup .ensures .0) (c .before .match .keys2) in (
       e,
-      subst (λ (r : Answer). permitted measuring (saidAnswer r) ≡ true) (sym e)
-          (fair-length (a .st) m (a .name .now)),
+      (
+        subst (λ (r : Answer). permitted measuring (saidAnswer r) ≡ true) (sym e)
+            (fair-length (a .st) m (a .name .now)),
+        c .before .before .lookup .ensures .1 .1,
+      ),
     )
 
 length-at-requires : tie.Need-length-at-requires
@@ -45,8 +48,11 @@ returns-2 c =
     ∙ length-at (a .st) m (a .name .now) _
     (sym (c .before .before .before .before .lookup .ensures .0) ∙ c .before .before .found .given .1) in (
       e,
-      subst (λ (r : Answer). permitted measuring (saidAnswer r) ≡ true) (sym e)
-          (fair-length (a .st) m (a .name .now)),
+      (
+        subst (λ (r : Answer). permitted measuring (saidAnswer r) ≡ true) (sym e)
+            (fair-length (a .st) m (a .name .now)),
+        c .before .before .before .before .lookup .ensures .1 .1,
+      ),
     )
 
 pub length-spec : {M : Type 1} → statement M

@@ -6,6 +6,7 @@ use borrow.Author.Tests.{not-true, not-false}
 use lib.ListN.{length}
 use Rattle.store.proofs.Fair.{fair-lookup}
 use Rattle.store.proofs.Found.{lookup-2, lookup-3, lookup-nameless, lookup-met}
+use Rattle.store.proofs.Found.{looked-2, looked-3, looked-nameless, looked-walk}
 use Rattle.store.specs.Look.{Lent, lent, checked}
 use Rattle.store.specs.Said.{saidLookup}
 use Rattle.store.specs.declared.Lookup.{Lookup}
@@ -25,8 +26,10 @@ is-whole-state-requires c κs = search needs
 returns : tie.Need-returns
 returns c =
     let s = c .before .before .before .before .before .before in
-    let e = sym (c .before .is-whole-state .ensures) ∙ not-true _ (c .if1 .taken) in
-    (sym (lookup-2 (s .args .st) (memory s) (s .args .name .now) e), refl)
+    let e = sym (c .before .is-whole-state .ensures) ∙ not-true _ (c .if1 .taken) in (
+      sym (lookup-2 (s .args .st) (memory s) (s .args .name .now) e),
+      (refl, sym (looked-2 (s .args .st) (memory s) (s .args .name .now) e)),
+    )
 
 -- the state is whole
 whole : (c : tie.Else1) → checked (start c .args .st) (memory (start c)) ≡ true
@@ -54,15 +57,19 @@ returns-2 : tie.Need-returns-2
 returns-2 c =
     let d = c .before .before .before in
     let s = start d in
-    let k = sym (c .before .before .name-kind .ensures) ∙ c .enum-told .given .1 in
-    (sym (lookup-3 (s .args .st) (memory s) (s .args .name .now) (whole d) k), refl)
+    let k = sym (c .before .before .name-kind .ensures) ∙ c .enum-told .given .1 in (
+      sym (lookup-3 (s .args .st) (memory s) (s .args .name .now) (whole d) k),
+      (refl, sym (looked-3 (s .args .st) (memory s) (s .args .name .now) (whole d) k)),
+    )
 
 returns-3 : tie.Need-returns-3
 returns-3 c =
     let d = c .before .before .before in
     let s = start d in
-    let k = sym (c .before .before .name-kind .ensures) ∙ c .enum-told2 .given .1 in
-    (sym (lookup-nameless (s .args .st) (memory s) (s .args .name .now) (whole d) k), refl)
+    let k = sym (c .before .before .name-kind .ensures) ∙ c .enum-told2 .given .1 in (
+      sym (lookup-nameless (s .args .st) (memory s) (s .args .name .now) (whole d) k),
+      (refl, sym (looked-nameless (s .args .st) (memory s) (s .args .name .now) (whole d) k)),
+    )
 
 returns-4 : tie.Need-returns-4
 returns-4 c =
@@ -73,8 +80,12 @@ returns-4 c =
     ∙ sym (lookup-met (s .args .st) (memory s) (s .args .name .now) _ (whole d) k
     (sym (ap (λ w. w .met) (c .before .walk .ensures)))) in (
       e,
-      subst (λ (r : Lookup). permitted lookingUp (saidLookup r) ≡ true) (sym e)
-          (fair-lookup (s .args .st) (memory s) (s .args .name .now)),
+      (
+        subst (λ (r : Lookup). permitted lookingUp (saidLookup r) ≡ true) (sym e)
+            (fair-lookup (s .args .st) (memory s) (s .args .name .now)),
+        ap (λ w. w .looked) (c .before .walk .ensures)
+            ∙ sym (looked-walk (s .args .st) (memory s) (s .args .name .now) (whole d) k),
+      ),
     )
 
 pub lookup-spec : {M : Type 1} → statement M

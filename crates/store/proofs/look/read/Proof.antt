@@ -30,8 +30,11 @@ returns c =
     ∙ read-not (a .st) m (a .name .now) (a .output .now) _ (c .before .before .lookup .ensures .0)
     (c .before .match .keys2) in (
       e,
-      subst (λ (r : Read). permitted readingLane (saidAnswer (r .answer)) ≡ true) (sym e)
-          (fair-read (a .st) m (a .name .now) (a .output .now) .numbered),
+      (
+        subst (λ (r : Read). permitted readingLane (saidAnswer (r .answer)) ≡ true) (sym e)
+            (fair-read (a .st) m (a .name .now) (a .output .now) .numbered),
+        c .before .before .lookup .ensures .1 .1,
+      ),
     )
 
 read-at-requires : tie.Need-read-at-requires
@@ -52,8 +55,11 @@ returns-2 c =
     (sym (c .before .before .before .before .before .before .before .lookup .ensures .0)
     ∙ c .before .before .before .before .before .found .given .1) in (
       e,
-      subst (λ (r : Read). permitted readingLane (saidAnswer (r .answer)) ≡ true) (sym e)
-          (fair-read (a .st) m (a .name .now) (a .output .now) .numbered),
+      (
+        subst (λ (r : Read). permitted readingLane (saidAnswer (r .answer)) ≡ true) (sym e)
+            (fair-read (a .st) m (a .name .now) (a .output .now) .numbered),
+        c .before .before .before .before .before .before .before .lookup .ensures .1 .1,
+      ),
     )
 
 pub read-spec : {M : Type 1} → statement M

@@ -6,6 +6,7 @@ use borrow.Author.Tests.{not-true, not-false}
 use lib.ListN.{length}
 use Rattle.store.proofs.Fair.{fair-append}
 use Rattle.store.proofs.Cases.{append-2, append-3, append-13, append-met}
+use Rattle.store.proofs.Found.{looked-2, looked-3, looked-nameless, looked-walk}
 use Rattle.store.proofs.Guard.{kind-length}
 use Rattle.store.specs.Append.{Out}
 use Rattle.store.specs.Look.{Lent, lent, checked}
@@ -28,8 +29,10 @@ is-whole-state-requires c κs = search needs
 returns : tie.Need-returns
 returns c =
     let s = c .before .before .before .before .before .before .before in
-    let e = sym (c .before .is-whole-state .ensures) ∙ not-true _ (c .if1 .taken) in
-    (sym (append-2 (s .args .st) (memory s) (s .args .name .now) (s .args .bytes .now) e), refl)
+    let e = sym (c .before .is-whole-state .ensures) ∙ not-true _ (c .if1 .taken) in (
+      sym (append-2 (s .args .st) (memory s) (s .args .name .now) (s .args .bytes .now) e),
+      (refl, sym (looked-2 (s .args .st) (memory s) (s .args .name .now) e)),
+    )
 
 -- the state is whole
 whole : (c : tie.Else1) → checked (start c .args .st) (memory (start c)) ≡ true
@@ -65,15 +68,19 @@ returns-2 : tie.Need-returns-2
 returns-2 c =
     let d = c .before .before .before in
     let s = start d in
-    let k = sym (c .before .before .name-kind .ensures) ∙ c .enum-told .given .1 in
-    (sym (append-3 (s .args .st) (memory s) (s .args .name .now) (s .args .bytes .now) (whole d) k), refl)
+    let k = sym (c .before .before .name-kind .ensures) ∙ c .enum-told .given .1 in (
+      sym (append-3 (s .args .st) (memory s) (s .args .name .now) (s .args .bytes .now) (whole d) k),
+      (refl, sym (looked-3 (s .args .st) (memory s) (s .args .name .now) (whole d) k)),
+    )
 
 returns-3 : tie.Need-returns-3
 returns-3 c =
     let d = c .before .before .before in
     let s = start d in
-    let k = sym (c .before .before .name-kind .ensures) ∙ c .enum-told2 .given .1 in
-    (sym (append-13 (s .args .st) (memory s) (s .args .name .now) (s .args .bytes .now) (whole d) k), refl)
+    let k = sym (c .before .before .name-kind .ensures) ∙ c .enum-told2 .given .1 in (
+      sym (append-13 (s .args .st) (memory s) (s .args .name .now) (s .args .bytes .now) (whole d) k),
+      (refl, sym (looked-nameless (s .args .st) (memory s) (s .args .name .now) (whole d) k)),
+    )
 
 same-length : tie.Need-same-length
 same-length c = search needs
@@ -88,12 +95,17 @@ returns-4 : tie.Need-returns-4
 returns-4 c =
     let t = c .before .before .before .before .before .before .before .before .before .before in
     let s = start (guarded t) in
-    let e = c .before .before .before .before .before .before .append-proper .ensures
+    let did = c .before .before .before .before .before .before .append-proper in
+    let e = did .ensures .0
     ∙ sym (append-met (s .args .st) (memory s) (s .args .name .now) (s .args .bytes .now) _ (whole (guarded t))
     (proper t) refl) in (
       e,
-      subst (λ (o : Out). permitted appending (saidAppended (o .answer)) ≡ true) (sym e)
-          (fair-append (s .args .st) (memory s) (s .args .name .now) (s .args .bytes .now) .numbered),
+      (
+        subst (λ (o : Out). permitted appending (saidAppended (o .answer)) ≡ true) (sym e)
+            (fair-append (s .args .st) (memory s) (s .args .name .now) (s .args .bytes .now) .numbered),
+        did .ensures .1
+            ∙ sym (looked-walk (s .args .st) (memory s) (s .args .name .now) (whole (guarded t)) (proper t)),
+      ),
     )
 
 pub append-spec : {M : Type 1} → statement M

@@ -1,12 +1,9 @@
--- The case that the lookup met. Assumes nothing.
+-- The lookup, then what it met; its walk is told beside the answer. Assumes nothing.
 use mathlib.Core.Path.{_≡_, sym, ap, _∙_}
 use borrow.Author.Needs.{needs}
-use Rattle.store.proofs.Cases.{met-damaged, met-standing, met-empty}
-use Rattle.store.proofs.Found.{walk-held}
 use Rattle.store.specs.Append.{Out, onMet}
 use Rattle.store.specs.Look.{Lent, lent, walkOf}
 use Rattle.shared_arena_hashmap.specs.declared.Walk.{Walk}
-use Rattle.shared_arena_hashmap.specs.declared.Met.the-variants.{Empty, Damaged, Lap}
 use Rattle.shared_arena_hashmap.specs.declared.Met.{Met}
 use Rattle.store.proofs.write.append_proper.Statement.{statement}
 use Rattle.store.proofs.write.append_proper.Tie as tie
@@ -22,43 +19,11 @@ met-is : (c : tie.After-walk)
     → walkOf (start c .args .st) (memory (start c)) (start c .args .name .now) .met ≡ c .walk .result .met
 met-is c = sym (ap (λ (w : Walk). w .met) (c .walk .ensures))
 
--- and what the call then is
-abbrev goesOn : tie.Start → Met → Out
-goesOn s x = onMet x (s .args .st) (memory s) (s .args .name .now) (s .args .bytes .now)
-
-on-met : (c : tie.After-walk) (x : Met) → c .walk .result .met ≡ x
-    → goesOn (start c) (walkOf (start c .args .st) (memory (start c)) (start c .args .name .now) .met)
-    ≡ goesOn (start c) x
-on-met c x e = let s = start c in ap (goesOn s) (met-is c ∙ e)
-
 walk-requires : tie.Need-walk-requires
 walk-requires c κs = search needs
 
-enum-told : tie.Need-enum-told
-enum-told c = search needs
-
-enum-known-met : tie.Need-enum-known-met
-enum-known-met c = search needs
-
-append-standing-requires : tie.Need-append-standing-requires
-append-standing-requires c κs =
-    let w = c .before .before .before .before .before .before in
-    let s = start w in
-    let e = met-is w ∙ c .before .before .before .before .met .given .1 in
-    let h = walk-held (s .args .st) (memory s) (s .args .name .now) _ (s .pre .0) e in
-    (h .whole, (h .length-in, h .value-in))
-
-enum-told-2 : tie.Need-enum-told-2
-enum-told-2 c = search needs
-
-append-new-requires : tie.Need-append-new-requires
-append-new-requires c κs = search needs
-
-enum-told-3 : tie.Need-enum-told-3
-enum-told-3 c = search needs
-
-append-after-lap-requires : tie.Need-append-after-lap-requires
-append-after-lap-requires c κs = search needs
+append-met-requires : tie.Need-append-met-requires
+append-met-requires c κs = let w = c .before .before .before in (start w .pre, met-is w)
 
 same-length : tie.Need-same-length
 same-length c = search needs
@@ -71,87 +36,13 @@ same-length-3 c = search needs
 
 returns : tie.Need-returns
 returns c =
-    let w = c .before .before in
+    let did = c .before .before .before .before .before .before in
+    let w = did .before .before .before .before in
     let s = start w in
-    sym (on-met w Damaged (c .enum-told .given .1)
-    ∙ met-damaged (s .args .st) (memory s) (s .args .name .now) (s .args .bytes .now))
-
-same-length-4 : tie.Need-same-length-4
-same-length-4 c = search needs
-
-same-length-5 : tie.Need-same-length-5
-same-length-5 c = search needs
-
-same-length-6 : tie.Need-same-length-6
-same-length-6 c = search needs
-
-returns-2 : tie.Need-returns-2
-returns-2 c =
-    let t = c .before .before .before .before .before .before .before .before .before .before .before in
-    let w = t .before .before in
-    let s = start w in
-    c .before .before .before .before .before .before .append-standing .ensures
-    ∙ sym (on-met w _ (t .met .given .1)
-    ∙ met-standing (s .args .st) (memory s) (s .args .name .now) (s .args .bytes .now) _)
-
-same-length-7 : tie.Need-same-length-7
-same-length-7 c = search needs
-
-same-length-8 : tie.Need-same-length-8
-same-length-8 c = search needs
-
-same-length-9 : tie.Need-same-length-9
-same-length-9 c = search needs
-
-returns-3 : tie.Need-returns-3
-returns-3 c =
-    let t = c .before .before .before .before .before .before .before .before .before .before in
-    let w = t .before .before in
-    let s = start w in
-    c .before .before .before .before .before .before .append-new .ensures
-    ∙ sym (on-met w Empty (t .enum-told2 .given .1)
-    ∙ met-empty (s .args .st) (memory s) (s .args .name .now) (s .args .bytes .now))
-
-same-length-10 : tie.Need-same-length-10
-same-length-10 c = search needs
-
-same-length-11 : tie.Need-same-length-11
-same-length-11 c = search needs
-
-same-length-12 : tie.Need-same-length-12
-same-length-12 c = search needs
-
-returns-4 : tie.Need-returns-4
-returns-4 c =
-    let t = c .before .before .before .before .before .before .before .before .before .before in
-    c .before .before .before .before .before .before .append-after-lap .ensures
-    ∙ sym (on-met (t .before .before) Lap (t .enum-told3 .given .1))
+    let goesOn : Met → Out = λ x. onMet x (s .args .st) (memory s) (s .args .name .now) (s .args .bytes .now) in
+    (did .append-met .ensures ∙ sym (ap goesOn (met-is w)), ap (λ (v : Walk). v .looked) (w .walk .ensures))
 
 pub append-proper-spec : {M : Type 1} → statement M
 append-proper-spec =
     tie.close
-    (tie.spec
-    walk-requires
-    enum-told
-    enum-known-met
-    append-standing-requires
-    enum-told-2
-    append-new-requires
-    enum-told-3
-    append-after-lap-requires
-    same-length
-    same-length-2
-    same-length-3
-    returns
-    same-length-4
-    same-length-5
-    same-length-6
-    returns-2
-    same-length-7
-    same-length-8
-    same-length-9
-    returns-3
-    same-length-10
-    same-length-11
-    same-length-12
-    returns-4)
+    (tie.spec walk-requires append-met-requires same-length same-length-2 same-length-3 returns)

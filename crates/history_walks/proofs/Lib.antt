@@ -1,0 +1,3 @@
+-- The theorems of specs/Walks.antt.
+pub mod Order
+pub mod Told
