@@ -86,7 +86,7 @@ def definitions():
         lines = open(path, encoding="utf-8").read().split("\n")
         for i, line in enumerate(lines):
             name = DEFINITION.match(line)
-            if not name or line.startswith("pub mod"):
+            if not name or name.group(1) in ("mod", "use"):
                 continue
             above = i
             while above and lines[above - 1].startswith("--") and not lines[above - 1].startswith("-- ----"):

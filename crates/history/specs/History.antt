@@ -7,6 +7,9 @@ use mathlib.Core.Option.{Option, none, some}
 use mathlib.Core.List.{List, [], _∷_, _++_}
 use lib.ListN.{length}
 use Rattle.fastcmp.specs.Equal.{equalBytes}
+-- the log's entries, and what they come to for a name: the flat store's log is of the same
+pub use Rattle.entries.specs.Log.{Entry, entry, joinedOn}
+unfoldable pub use Rattle.entries.specs.Log.{joinedIn}
 use Rattle.store.specs.declared.State.{State}
 use Rattle.store.specs.declared.Created.the-variants.{Made}
 use Rattle.store.specs.declared.Appended.{Appended}
@@ -77,14 +80,6 @@ pub record Born (capacity seed size : ℕ) (table keys lists : List ℕ) (w : Wo
 
 -- ---- the log: the accepted appends of a history, in order
 
--- RULES Y2. An accepted append: the name, and the bytes
-pub record Entry : Type 0 where
-  pub name : List ℕ
-  pub bytes : List ℕ
-
-abbrev pub entry : List ℕ → List ℕ → Entry
-entry name bytes = record { name = name; bytes = bytes }
-
 -- RULES Y2. What a call adds: an append itself, where it is accepted
 abbrev pub logged : Call → World → List Entry
 logged (appends name bytes) w = cond (accepts w name bytes) (entry name bytes ∷ []) []
@@ -102,17 +97,6 @@ logOf [] w = []
 logOf (c ∷ calls) w = logged c w ++ logOf calls (after c w)
 
 -- ---- what the log comes to for a name
-
--- RULES Y2. Bytes joined on behind those that stand; a first append makes the name stand
-abbrev pub joinedOn : Option (List ℕ) → List ℕ → Option (List ℕ)
-joinedOn none bytes = some bytes
-joinedOn (some bs) bytes = some (bs ++ bytes)
-
--- RULES Y2. The entries of name j joined on, in order
-unfoldable pub joinedIn : List ℕ → List Entry → Option (List ℕ) → Option (List ℕ)
-unfolding equalBytes
-joinedIn j [] stood = stood
-joinedIn j (e ∷ log) stood = joinedIn j log (cond (equalBytes j (e .name)) (joinedOn stood (e .bytes)) stood)
 
 -- RULES Y2. The accepted appends to name j, joined in order; none where there was none
 abbrev pub joined : List ℕ → List Call → World → Option (List ℕ)

@@ -1,73 +1,47 @@
--- Laws of scripts: an entry by its tests, and a turn of the replay. Assumes nothing.
+-- Laws of scripts: a turn of the replay, and the call. Assumes nothing.
 use Prim.Native.Nat.{ℕ, zero, suc, _+_, _-_, _≤_, _<_}
 use mathlib.Core.Path.{_≡_, refl, sym, ap, _∙_, subst}
 use mathlib.Core.Bool.{Bool, true, false, false≢true}
 use mathlib.Core.List.{List}
 use native.Mathlib.Omega.{arith}
 use lib.ListN.{length}
-use borrow.Author.Tests.{lt-ltb, le-ltb}
 use Rattle.limits.specs.Limits.{nameLimitFor}
-use Rattle.numbers.specs.LittleEndian.{leNumber}
-use Rattle.spans.specs.Span.{readSpan}
+use Rattle.entries.specs.declared.Next.the-variants.{Whole, NoEntry}
+use Rattle.entries.specs.Form.{entryAt, Met, entriesFrom}
+use Rattle.entries.proofs.Laws.{entries-none, entries-whole}
 use Rattle.store.specs.declared.Created.{Created}
 use Rattle.store.specs.declared.Created.the-variants.{Made, Barred}
 use Rattle.store.specs.Create.{Out as Create·Out, out as Create·out, creatable}
 use Rattle.store.specs.Look.{Lent, lent}
 use Rattle.store.proofs.Whole.{create-made, create-barred}
 use Rattle.store.specs.declared.State.{State}
-use Rattle.history.specs.History.{World, play, Born, joined}
+use Rattle.history.specs.History.{World, Call, play, Born, joined}
 use Rattle.history.specs.Promises.{ReadsAs}
 use Rattle.history.proofs.Born.{born-size}
 use Rattle.history.proofs.Demand.{reads-back}
-use Rattle.replay.specs.declared.Entry.{Entry}
-use Rattle.replay.specs.declared.Entry.the-variants.{Whole, NoEntry}
-use Rattle.replay.specs.Script.{world, entryAt, Inside, onEntry, callsFrom, callsOf, played, Out}
+use Rattle.replay.specs.Script.{world, callsBy, callsOf, played, Out}
 use Rattle.replay.specs.Script.{out, leftBy, playedOn, createdOn, replayOf, Replayed}
 
-module _ (s : List ℕ) (at : ℕ) where
-  pub entry-short : length s - at < 6 → entryAt s at ≡ NoEntry
-  unfolding entryAt
-  entry-short h = rw (lt-ltb (length s - at) 6 h)
-
-  pub entry-cut : (n : ℕ) → n ≡ leNumber (readSpan at 2 s) → 6 ≤ length s - at → length s - at - 6 < n → entryAt s at ≡ NoEntry
-  unfolding entryAt
-  entry-cut n e h k = rw (le-ltb (length s - at) 6 h, ← e, lt-ltb (length s - at - 6) n k)
-
-  pub entry-long : (n m : ℕ) → n ≡ leNumber (readSpan at 2 s) → m ≡ leNumber (readSpan (at + 2 + n) 4 s) → 6 ≤ length s - at → n ≤ length s - at - 6
-      → length s - at - 6 - n < m → entryAt s at ≡ NoEntry
-  unfolding entryAt
-  entry-long n m e f h k l = rw (← e, ← f, le-ltb (length s - at) 6 h, le-ltb (length s - at - 6) n k, lt-ltb (length s - at - 6 - n) m l)
-
-  pub entry-whole : (n m : ℕ) → n ≡ leNumber (readSpan at 2 s) → m ≡ leNumber (readSpan (at + 2 + n) 4 s) → 6 ≤ length s - at → n ≤ length s - at - 6
-      → m ≤ length s - at - 6 - n → entryAt s at ≡ Whole (at + 2 + n) (at + 2 + n + 4) (at + 2 + n + 4 + m)
-  unfolding entryAt
-  entry-whole n m e f h k l = rw (← e, ← f, le-ltb (length s - at) 6 h, le-ltb (length s - at - 6) n k, le-ltb (length s - at - 6 - n) m l)
+-- what is left of a script from a place on, at most n entries
+abbrev pub callsFrom : ℕ → List ℕ → ℕ → List Call
+callsFrom n s at = callsBy (entriesFrom n s at .entries)
 
 module _ (s : List ℕ) (at : ℕ) where
   -- no whole entry there: nothing is left to play
   pub turn-ends : (n : ℕ) (w : World) → NoEntry ≡ entryAt s at → play (callsFrom n s at) w ≡ w
-  unfolding callsFrom play
-  turn-ends zero w p = refl
-  turn-ends (suc n) w p = ap (λ (e : Entry). play (onEntry e s at (callsFrom n s)) w) (sym p)
+  unfolding play
+  turn-ends n w p = ap (λ (m : Met). play (callsBy (m .entries)) w) (entries-none s at n (sym p))
 
   -- an entry there: its append, then what follows it
   pub turn-plays : (n : ℕ) (st : State) (m : Lent) (e f t : ℕ) → 0 < n → Whole e f t ≡ entryAt s at
       → play (callsFrom n s at) (world st m) ≡ play (callsFrom (n - 1) s t) (played st m s (at + 2) e f t)
-  unfolding callsFrom play
-  turn-plays zero st m e f t h p = absurd (omega arith)
-  turn-plays (suc n) st m e f t h p =
-      let back : n ≡ suc n - 1 = omega arith in
-      ap (λ (x : Entry). play (onEntry x s at (callsFrom n s)) (world st m)) (sym p)
-      ∙ ap (λ (k : ℕ). play (callsFrom k s t) (played st m s (at + 2) e f t)) back
-
--- an entry that the bytes suffice for lies inside
-pub whole-inside : (len at n m : ℕ) → at ≤ len → 6 ≤ len - at → n ≤ len - at - 6 → m ≤ len - at - 6 - n
-    → Inside len at (Whole (at + 2 + n) (at + 2 + n + 4) (at + 2 + n + 4 + m))
-whole-inside len at n m h i j k = (omega arith, (omega arith, (omega arith, omega arith)))
+  unfolding play
+  turn-plays n st m e f t h p =
+      ap (λ (x : Met). play (callsBy (x .entries)) (world st m)) (entries-whole s at n e f t h (sym p))
 
 -- no turn left: nothing is left to play
 pub turns-over : (s : List ℕ) (at n : ℕ) (w : World) → n ≤ 0 → play (callsFrom n s at) w ≡ w
-unfolding callsFrom play
+unfolding entriesFrom play
 turns-over s at zero w h = refl
 turns-over s at (suc n) w h = absurd (omega arith)
 

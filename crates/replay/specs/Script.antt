@@ -1,13 +1,12 @@
--- A script of appends: for each, name length (2 bytes, little-endian), name, byte length (4), bytes, one behind the
--- other. It ends where no whole entry follows.
-use Prim.Native.Nat.{ℕ, zero, suc, _+_, _-_, _≤_}
+-- A script of appends: entries one behind the other, in the form that crate entries has. It ends where no whole entry
+-- follows.
+use Prim.Native.Nat.{ℕ, _-_, _≤_}
 use mathlib.Core.Path.{_≡_}
-use mathlib.Core.Bool.{cond}
 use mathlib.Core.List.{List, [], _∷_}
-use lib.Dec.{ltb}
 use lib.ListN.{length}
-use Rattle.numbers.specs.LittleEndian.{leNumber}
 use Rattle.spans.specs.Span.{readSpan}
+use Rattle.entries.specs.Log.{Entry}
+use Rattle.entries.specs.Form.{entriesOf}
 use Rattle.store.specs.declared.State.{State}
 use Rattle.store.specs.Create.{Out as Create·Out, out as Create·out, createOf}
 use Rattle.store.specs.Look.{Lent, lent}
@@ -16,43 +15,19 @@ use Rattle.store.specs.declared.Created.{Created}
 use Rattle.store.specs.declared.Created.the-variants.{Made, Barred}
 use Rattle.history.specs.History.{World, Call, appends, after, play, Born, joined}
 use Rattle.history.specs.Promises.{ReadsAs}
-use Rattle.replay.specs.declared.Entry.{Entry}
-use Rattle.replay.specs.declared.Entry.the-variants.{Whole, NoEntry}
 
 -- RULES Y11.
 abbrev pub world : State → Lent → World
 world st m = record { state = st; memory = m }
 
--- RULES Y11. The entry at a place: where its name ends, where its bytes start, and where they end
-unfoldable pub entryAt : List ℕ → ℕ → Entry
-unfolding leNumber readSpan
-entryAt s at =
-    let n : ℕ = leNumber (readSpan at 2 s) in
-    let m : ℕ = leNumber (readSpan (at + 2 + n) 4 s) in
-    cond (ltb (length s - at) 6) NoEntry
-    (cond (ltb (length s - at - 6) n) NoEntry
-    (cond (ltb (length s - at - 6 - n) m) NoEntry (Whole (at + 2 + n) (at + 2 + n + 4) (at + 2 + n + 4 + m))))
+-- RULES Y11. The appends that entries stand for
+abbrev pub callsBy : List Entry → List Call
+callsBy [] = []
+callsBy (e ∷ es) = appends (e .name) (e .bytes) ∷ callsBy es
 
--- RULES Y11. An entry's places lie in a script of so many bytes
-abbrev pub Inside : ℕ → ℕ → Entry → Type 0
-Inside len at (Whole nameEnd from to) = (at + 2 ≤ nameEnd) × ((nameEnd ≤ len) × ((from ≤ to) × (to ≤ len)))
-Inside len at NoEntry = at ≤ len
-
--- RULES Y11. The append that an entry stands for, and those of the entries behind it
-abbrev pub onEntry : Entry → List ℕ → ℕ → (ℕ → List Call) → List Call
-onEntry (Whole nameEnd from to) s at rest =
-    appends (readSpan (at + 2) (nameEnd - (at + 2)) s) (readSpan from (to - from) s) ∷ rest to
-onEntry NoEntry s at rest = []
-
--- RULES Y11. At most n entries from a place on
-unfoldable pub callsFrom : ℕ → List ℕ → ℕ → List Call
-unfolding entryAt
-callsFrom zero s at = []
-callsFrom (suc n) s at = onEntry (entryAt s at) s at (callsFrom n s)
-
--- RULES Y11. All of a script: an entry has at least 6 bytes, so there are no more entries than bytes
+-- RULES Y11. All of a script
 abbrev pub callsOf : List ℕ → List Call
-callsOf s = callsFrom (length s) s 0
+callsOf s = callsBy (entriesOf s .entries)
 
 -- RULES Y11. The world after an entry's append
 abbrev pub played : State → Lent → List ℕ → ℕ → ℕ → ℕ → ℕ → World

@@ -3,8 +3,9 @@
 //
 // It promises demand 3 of running code: whatever the script holds, each name then reads as its accepted appends joined
 // in order, and as absent where there was none; and every lent byte and word is what the appends leave one by one.
-// specs/Script.antt says which appends a script holds. It uses limits, numbers, spans, store and history, and the
-// crates of the store's types.
+// specs/Script.antt says which appends a script holds. It uses limits, spans, entries (the form of a script), store and
+// history, and the crates of the store's types.
+use entries::Next;
 use store::Appended;
 use store::Created;
 use store::State;
@@ -13,36 +14,7 @@ ghost use Prim.Native.Nat.{_≤_};
 ghost use lib.ListN.{length};
 ghost use Rattle.store.specs.Look.{lent};
 ghost use Rattle.history.specs.History.{play, stateAfter};
-ghost use Rattle.replay.specs.Script.{world, entryAt, Inside, callsOf, played, out, replayOf, Replayed};
-
-// An entry of a script: where its name ends, where its bytes start and end; or no whole entry there.
-pub enum Entry {
-    Whole(usize, usize, usize),
-    NoEntry,
-}
-
-// The entry at a place: name length (2 bytes, little-endian), name, byte length (4), bytes.
-fn entry_at(script: &[u8], at: usize) -> Entry
-    requires { ⌜ at ≤ length (now script) ⌝ }
-    ensures entry { λ r. ⌜ r ≡ entryAt (now (script .entry)) at ⌝ }
-    ensures inside { λ r. ⌜ Inside (length (now (script .entry))) at r ⌝ }
-{
-    let left = script.len() - at;
-    if left < 6 {
-        return Entry::NoEntry;
-    }
-    let n = spans::get_u16(script, at) as usize;
-    if left - 6 < n {
-        return Entry::NoEntry;
-    }
-    let m = spans::get_u32(script, at + 2 + n) as usize;
-    if left - 6 - n < m {
-        return Entry::NoEntry;
-    }
-    let name_end = at + 2 + n;
-    let bytes = name_end + 4;
-    Entry::Whole(name_end, bytes, bytes + m)
-}
+ghost use Rattle.replay.specs.Script.{world, callsOf, played, out, replayOf, Replayed};
 
 fn state_of(a: Appended) -> State
     ensures { λ r. ⌜ r ≡ stateAfter a ⌝ }
@@ -99,8 +71,8 @@ fn play_script(
     let mut at = 0;
     let mut turns = script.len();
     while 0 < turns {
-        let e = entry_at(script, at);
-        let Entry::Whole(name_end, from, to) = e else {
+        let e = entries::entry_at(script, at);
+        let Next::Whole(name_end, from, to) = e else {
             return state;
         };
         state = play_entry(

@@ -1,6 +1,8 @@
-use Rattle.replay.specs.declared.Entry.{Entry}
-use Rattle.replay.proofs.Laws.{turn-ends, turn-plays, turns-over}
-use Rattle.replay.specs.Script.{world, Inside, callsOf, callsFrom}
+use Rattle.entries.specs.declared.Next.{Next}
+use Rattle.entries.specs.declared.Next.the-variants.{Whole}
+use Rattle.entries.specs.Form.{Inside}
+use Rattle.replay.proofs.Laws.{callsFrom, turn-ends, turn-plays, turns-over}
+use Rattle.replay.specs.Script.{world, callsOf}
 use Rattle.history.specs.History.{play}
 use Rattle.store.specs.Look.{lent}
 use borrow.Author.Needs.{needs}
@@ -18,6 +20,17 @@ Inv-loop table₀ keys₀ lists₀ script state₀ at₀ turns₀ table keys lis
 
 abbrev μ-loop : tie.MeasureT-loop
 μ-loop table₀ keys₀ lists₀ script state₀ at₀ turns₀ table keys lists state at turns = turns
+
+-- an entry's places, where it was looked for
+abbrev InScript : tie.After-e Inv-loop μ-loop → Next → Type 0
+InScript c e =
+    let d = c .before .before .before .before in
+    Inside (length (d .before .before .before .before .before .args .script .now)) (d .loop .at) e
+
+-- and of the one that was met
+inside : (c : tie.After-e Inv-loop μ-loop)
+    → InScript c (Whole (c .e .given .0 .0) (c .e .given .0 .1 .0) (c .e .given .0 .1 .1 .0))
+inside c = subst (InScript c) (c .e .given .1) (c .before .before .entry-at .ensures .1)
 
 loop-holds : tie.Need-loop-holds Inv-loop μ-loop
 loop-holds c = (omega arith, (refl, (refl, (refl, refl))))
@@ -47,7 +60,9 @@ add-play-entry : tie.Need-add-play-entry Inv-loop μ-loop
 add-play-entry c = search needs
 
 play-entry-requires : tie.Need-play-entry-requires Inv-loop μ-loop
-play-entry-requires c κs = subst (λ (e : Entry). Inside (length (c .before .before .before .before .before .before .before .before .before .before .before .before .before .args .script .now)) (c .before .before .before .before .before .before .before .before .loop .at) e) (c .before .before .before .before .e .given .1) (c .before .before .before .before .before .before .entry-at .ensures .1)
+play-entry-requires c κs =
+    let I = inside (c .before .before .before .before) in
+    (I .0, (omega (arith, I .1 .0, I .1 .1 .0, I .1 .1 .1), I .1 .1))
 
 sub-turns : tie.Need-sub-turns Inv-loop μ-loop
 sub-turns c = search needs
@@ -61,7 +76,7 @@ loop-again c =
     let p = c .before .before .before .before .before .before .play-entry in
     let e = c .before .before .before .before .before .before .before .before .before .before .before .e .given in
     let s = c .before .before .before .before .before .before .before .before .before .before .before .before .before .before .before .before .before .before .before .before .args .script .now in (
-      subst (λ (x : Entry). Inside (length s) (l .at) x) (e .1) (c .before .before .before .before .before .before .before .before .before .before .before .before .before .entry-at .ensures .1) .1 .1 .1,
+      inside (c .before .before .before .before .before .before .before .before .before .before .before) .1 .1 .1,
       (
         p .kept .1 .0 ∙ l .inv .1 .0,
         (

@@ -1,0 +1,3 @@
+pub mod Log
+pub mod Form
+pub mod Promises

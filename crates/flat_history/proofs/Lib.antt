@@ -1,0 +1,2 @@
+-- `Agree`: the two stores are the same record.
+pub mod Agree

@@ -1,0 +1,6 @@
+pub mod Calls
+pub mod Found
+pub mod Said
+pub mod History
+pub mod Promises
+pub mod Cases
