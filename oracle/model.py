@@ -503,6 +503,57 @@ class Store:
         self.enter(self.first(), s["buckets"], at, murmur(s["seed"], name))
 
 
+# ---- the flat store
+
+class Flat:
+    """a flat run in one lent buffer: name length (2), name, byte length (4), bytes, in order of arrival"""
+
+    def __init__(self, buffer):
+        self.buffer, self.used = buffer, 0
+
+    def check(self, name):
+        if self.used > len(self.buffer):
+            raise Refused(2)
+        if len(name) > 65535:
+            raise Refused(3)
+
+    def append(self, name, data):
+        self.check(name)
+        if name == b"":
+            raise Refused(13)
+        if len(data) > 4294967295:
+            raise Refused(14)
+        entry = le(len(name), 2) + name + le(len(data), 4) + data
+        if self.used + len(entry) > len(self.buffer):
+            raise Refused(14)
+        self.buffer[self.used:self.used + len(entry)] = entry
+        self.used += len(entry)
+
+    def entries(self):
+        found, at = [], 0
+
+        def take(n):
+            nonlocal at
+            if at + n > self.used:
+                raise Refused(4)
+            at += n
+            return bytes(self.buffer[at - n:at])
+
+        while at < self.used:
+            name = take(number(take(2)))
+            found.append((name, take(number(take(4)))))
+        return found
+
+    def read(self, name):
+        self.check(name)
+        if name == b"":
+            raise Absent()
+        mine = [bs for n, bs in self.entries() if n == name]
+        if not mine:
+            raise Absent()
+        return b"".join(mine)
+
+
 # ---- the bench's language
 
 class Fault(Exception):
@@ -541,7 +592,16 @@ readings NAME ROOM
 piece NAME GIVEN ROOM
 feed COUNT HELD FED PIECE ROOM END
 check MARKBYTES HH
-walk""".split("\n")
+walk
+flat-lend BYTES HH
+flat-used N
+flat-append NAME BYTES
+flat-lookup NAME
+flat-length NAME
+flat-read NAME ROOM
+flat-poke PLACE BYTES
+flat-dump PLACE COUNT
+flat-sum""".split("\n")
 COMMANDS = {u.split()[0]: u for u in USAGE}
 HELP = """# a command to a line, words one space apart; an empty line and one that begins with # are passed over
 # NUMBERS are decimal
@@ -600,7 +660,7 @@ def shown(b):
 
 class Bench:
     def __init__(self):
-        self.st = Store()
+        self.st, self.flat = Store(), Flat(bytearray())
 
     def area(self, w):
         if w not in ("table", "keys", "lists"):
@@ -826,6 +886,56 @@ class Bench:
 
     def walk(self):
         return "walk %d" % Store.walk
+
+    def flat_lend(self, n, hh):
+        n = num(n)
+        if not re.fullmatch("[0-9a-f]{2}", hh):
+            raise Fault("not bytes: hex pairs, - or N*HH joined by +, or ' and a name")
+        if n > 196608:
+            raise Fault("no such memory: at most 196608 bytes")
+        self.flat = Flat(bytearray([int(hh, 16)]) * n)
+        return "lent"
+
+    def flat_used(self, n):
+        self.flat.used = num(n)
+        return "set"
+
+    def flat_append(self, name, b):
+        self.flat.append(data(name), data(b))
+        return "accepted"
+
+    def flat_lookup(self, name):
+        self.flat.read(data(name))
+        return "standing"
+
+    def flat_length(self, name):
+        return "length %d" % len(self.flat.read(data(name)))
+
+    def flat_read(self, name, room):
+        name, room = data(name), num(room)
+        if room > PAGE:
+            raise Fault("output too long: at most 1048576")
+        try:
+            got = self.flat.read(name)
+            if len(got) > room:
+                return "refused 8 %d kept" % len(got)
+            return "reading %d %s kept" % (len(got), shown(got))
+        except Absent:
+            return "absent kept"
+        except Refused as e:
+            return "refused %d kept" % e.number
+
+    def flat_poke(self, place, what):
+        place, new = num(place), data(what)
+        self.span(self.flat.buffer, place, len(new))
+        self.flat.buffer[place:place + len(new)] = new
+        return "poked"
+
+    def flat_dump(self, place, n):
+        return shown(self.span(self.flat.buffer, num(place), num(n)))
+
+    def flat_sum(self):
+        return "sum %d %d" % (murmur(0, self.flat.buffer), self.flat.used)
 
     def help(self):
         return HELP + "\n" + "\n".join("# " + u for u in USAGE)

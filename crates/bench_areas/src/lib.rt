@@ -110,9 +110,10 @@ fn poke_table(line: &[u8], table: &mut [u32]) -> u32 {
     poke_word(table, place.value, word.value)
 }
 
-fn poke_area(line: &[u8], area: &mut [u8], scratch: &mut [u8]) -> u32 {
-    let place = words::number_at(line, 2);
-    let got = words::bytes(line, 3, scratch);
+// Bytes to a place of an area, by two words of a line, place and bytes: the fault, 0 where it is done.
+pub fn poke_area(line: &[u8], at: usize, data: usize, area: &mut [u8], scratch: &mut [u8]) -> u32 {
+    let place = words::number_at(line, at);
+    let got = words::bytes(line, data, scratch);
     let fault = fault::first(place.fault, got.fault);
     if fault != 0 {
         return fault;
@@ -132,8 +133,8 @@ fn poke_fault(
     let area = area_of(words::word(line, 1));
     match area {
         0 => poke_table(line, table),
-        1 => poke_area(line, keys, scratch),
-        2 => poke_area(line, lists, scratch),
+        1 => poke_area(line, 2, 3, keys, scratch),
+        2 => poke_area(line, 2, 3, lists, scratch),
         _ => fault::NO_SUCH_AREA,
     }
 }
@@ -147,20 +148,20 @@ fn poke(line: &[u8], table: &mut [u32], keys: &mut [u8], lists: &mut [u8], scrat
     say::line(b"poked")
 }
 
-// What a `dump` line asks for of an area: from a place, up to another, or why nothing.
+// What two words of a line, place and count, ask for of an area: from a place, up to another, or why nothing.
 struct Range {
     from: usize,
     to: usize,
     fault: u32,
 }
 
-fn range_of(line: &[u8], len: usize) -> Range
+fn range_of(line: &[u8], at: usize, size: usize, len: usize) -> Range
     ensures { λ r. ⌜ (r .from ≤ r .to) × (r .to ≤ len) ⌝ }
 {
-    let place = words::number_at(line, 2);
-    let from = words::length_at(line, 2, len, fault::PAST_THE_END);
-    let n = words::length_at(line, 3, len - from.n, fault::PAST_THE_END);
-    let count = words::number_at(line, 3);
+    let place = words::number_at(line, at);
+    let from = words::length_at(line, at, len, fault::PAST_THE_END);
+    let n = words::length_at(line, size, len - from.n, fault::PAST_THE_END);
+    let count = words::number_at(line, size);
     let fault = fault::first(place.fault, count.fault);
     Range {
         from: from.n,
@@ -169,8 +170,9 @@ fn range_of(line: &[u8], len: usize) -> Range
     }
 }
 
-fn dump_bytes(line: &[u8], area: &[u8]) {
-    let r = range_of(line, area.len());
+// Says bytes of an area, by two words of a line, place and count.
+pub fn dump_bytes(line: &[u8], at: usize, size: usize, area: &[u8]) {
+    let r = range_of(line, at, size, area.len());
     if r.fault != 0 {
         return say::fault(r.fault);
     }
@@ -180,7 +182,7 @@ fn dump_bytes(line: &[u8], area: &[u8]) {
 }
 
 fn dump_words(line: &[u8], area: &[u32]) {
-    let r = range_of(line, area.len());
+    let r = range_of(line, 2, 3, area.len());
     if r.fault != 0 {
         return say::fault(r.fault);
     }
@@ -194,8 +196,8 @@ fn dump(line: &[u8], table: &[u32], keys: &[u8], lists: &[u8]) {
     let area = area_of(words::word(line, 1));
     match area {
         0 => dump_words(line, table),
-        1 => dump_bytes(line, keys),
-        2 => dump_bytes(line, lists),
+        1 => dump_bytes(line, 2, 3, keys),
+        2 => dump_bytes(line, 2, 3, lists),
         _ => say::fault(fault::NO_SUCH_AREA),
     }
 }

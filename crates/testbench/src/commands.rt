@@ -3,8 +3,8 @@ use script::rows;
 
 // A row a command: its number, then how it is written. The tens of the number say whose `play` has its arm: 1
 // bench_write, 2 bench_read, 3 bench_state, 4 bench_areas, 5 bench_lower, 6 bench_report, 7 bench_readings, 8
-// bench_pieces, 9 bench_check; those below 10 are this program's.
-const TABLE: [u8; 691] = *b"1 lend WORDS KEYBYTES LISTBYTES HH
+// bench_pieces, 9 bench_check, 10 bench_flat; those below 10 are this program's.
+const TABLE: [u8; 888] = *b"1 lend WORDS KEYBYTES LISTBYTES HH
 10 create CAPACITY SEED [SIZE]
 11 append NAME BYTES
 20 lookup NAME
@@ -37,6 +37,15 @@ const TABLE: [u8; 691] = *b"1 lend WORDS KEYBYTES LISTBYTES HH
 81 feed COUNT HELD FED PIECE ROOM END
 90 check MARKBYTES HH
 3 walk
+100 flat-lend BYTES HH
+101 flat-used N
+102 flat-append NAME BYTES
+103 flat-lookup NAME
+104 flat-length NAME
+105 flat-read NAME ROOM
+106 flat-poke PLACE BYTES
+107 flat-dump PLACE COUNT
+108 flat-sum
 ";
 
 // The number of the command that a line is, 0 where it can't be played.

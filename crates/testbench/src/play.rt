@@ -1,17 +1,19 @@
 // The lines, played on the lent areas.
 use crate::commands;
+use bench_flat::Flat;
 use bench_state::Played;
 use script::lines;
 use store::State;
 
 // What the testbench remembers between lines: the store's state, the walk that the last call by name told, and how much
-// of each area is lent.
+// of each area is lent; the flat store's buffer and its used count.
 struct Bench {
     st: State,
     walk: usize,
     words: usize,
     key_bytes: usize,
     list_bytes: usize,
+    flat: Flat,
 }
 
 fn fresh() -> Bench {
@@ -21,6 +23,7 @@ fn fresh() -> Bench {
         words: 0,
         key_bytes: 0,
         list_bytes: 0,
+        flat: bench_flat::none(),
     }
 }
 
@@ -32,12 +35,14 @@ fn lend(b: Bench, line: &[u8], table: &mut [u32], keys: &mut [u8], lists: &mut [
         return b;
     }
     say::line(b"lent");
+    let flat = b.flat;
     Bench {
         st: bench_state::zeros(),
         walk: 0,
         words: p.words,
         key_bytes: p.key_bytes,
         list_bytes: p.list_bytes,
+        flat,
     }
 }
 
@@ -154,6 +159,22 @@ fn play_lent(
     with_played(b, next)
 }
 
+// A command on the flat store.
+fn play_flat(
+    b: Bench,
+    k: u64,
+    line: &[u8],
+    name: &mut [u8],
+    output: &mut [u8],
+    flat: &mut [u8],
+) -> Bench {
+    let f = b.flat;
+    let after = bench_flat::play(k, f, line, flat, name, output);
+    let mut next = b;
+    next.flat = after;
+    next
+}
+
 // A line of any kind.
 fn play_line(
     b: Bench,
@@ -166,6 +187,7 @@ fn play_line(
     output: &mut [u8],
     places: &mut [i32],
     numbers: &mut [u32],
+    flat: &mut [u8],
 ) -> Bench {
     let k = commands::number_of(line, is_long);
     if k == 0 {
@@ -178,6 +200,9 @@ fn play_line(
     if k == 3 {
         say::number(b"walk ", b.walk as u64);
         return b;
+    }
+    if k / 10 == 10 {
+        return play_flat(b, k, line, name, output, flat);
     }
     play_lent(
         b,
@@ -204,6 +229,7 @@ fn play_input(
     output: &mut [u8],
     places: &mut [i32],
     numbers: &mut [u32],
+    flat: &mut [u8],
 ) {
     let mut bench = fresh();
     let mut lines = lines::all();
@@ -220,6 +246,7 @@ fn play_input(
             output,
             places,
             numbers,
+            flat,
         );
     }
 }
@@ -233,6 +260,7 @@ pub fn run(
     output: &mut [u8; 1048576],
     places: &mut [i32; 16384],
     numbers: &mut [u32; 16384],
+    flat: &mut [u8; 196608],
 ) {
     let mut chunk = io::large_buffer();
     let mut line = io::large_buffer();
@@ -246,5 +274,6 @@ pub fn run(
         output,
         places,
         numbers,
+        flat,
     );
 }
