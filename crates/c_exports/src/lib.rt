@@ -1,0 +1,285 @@
+// The store in C's calling form, for the C++ controller (document 02, Twelve): numbers, byte areas, word areas. The
+// state is in a lent area of 64 bytes (crate state_area, docs/LAYOUT.md); cpp/nuvrisel.h declares these functions.
+//
+// It promises, for any numbers and any areas: what the area holds is the state, and the answer is the store's, as
+// specs/Calls.antt says over the store's own definitions; a short or senseless area is 2; a refusal changes no lent
+// byte or word but the three in which an answer is told. It uses state_area, store and the crates above the store whose
+// calls it passes on.
+pub mod above;
+
+use store::Answer;
+use store::Appended;
+use store::Created;
+use store::Listed;
+use store::Lookup;
+use store::Outcome;
+ghost use mathlib.Core.Path.{_≡_};
+ghost use mathlib.Core.Bool.{true};
+ghost use Prim.Native.Nat.{_≤_};
+ghost use lib.ListN.{length};
+ghost use Rattle.limits.specs.Limits.{pageTaken, arenaLimitFor};
+ghost use Rattle.memory_arena.specs.Pages.{lendable};
+ghost use Rattle.store.specs.Create.{creatable};
+ghost use Rattle.store.specs.Look.{lent};
+ghost use Rattle.state_area.specs.Area.{areaSize};
+ghost use Rattle.c_exports.specs.Calls.{says, numberIn, answerTold, lookupTold, listedTold, savedCreated};
+ghost use Rattle.c_exports.specs.Calls.{createIn, savedAppended, appendIn, lookupIn, lengthIn, nextIn, readIn};
+
+// ---- what is said in numbers
+
+const ABSENT: u32 = 100;
+
+const NO_MORE: u32 = 101;
+
+// Tells a number and a word beside it, where three words are lent for that; hands the code on.
+fn tell(told: &mut [u32], code: u32, number: u64, beside: u32) -> u32
+    ensures { λ r. ⌜ (r, now (told .exit)) ≡ says code number beside (now (told .entry)) ⌝ }
+{
+    if told.len() < 3 {
+        return code;
+    }
+    let low = (number % 4294967296) as u32;
+    let high = (number / 4294967296) as u32;
+    told[0] = low;
+    told[1] = high;
+    told[2] = beside;
+    code
+}
+
+fn number_in(o: Outcome) -> u64
+    ensures { λ r. ⌜ r ≡ numberIn o ⌝ }
+{
+    match o {
+        Outcome::Length(n) => n,
+        Outcome::Reading(n) => n,
+        Outcome::Block(_, n) => n,
+        Outcome::NoSuchBlock => 0,
+    }
+}
+
+fn tell_answer(told: &mut [u32], answer: Answer) -> u32
+    ensures { λ r. ⌜ (r, now (told .exit)) ≡ answerTold answer (now (told .entry)) ⌝ }
+{
+    match answer {
+        Answer::Absent => tell(told, ABSENT, 0, 0),
+        Answer::Found(o) => tell(told, 0, number_in(o), 0),
+        Answer::Refused(n, t) => tell(told, n, t, 0),
+    }
+}
+
+fn tell_lookup(told: &mut [u32], found: Lookup) -> u32
+    ensures { λ r. ⌜ (r, now (told .exit)) ≡ lookupTold found (now (told .entry)) ⌝ }
+{
+    match found {
+        Lookup::At(at) => tell(told, 0, at as u64, 0),
+        Lookup::Missing => tell(told, ABSENT, 0, 0),
+        Lookup::Failed(n) => tell(told, n, 0, 0),
+    }
+}
+
+fn tell_listed(told: &mut [u32], next: Listed) -> u32
+    ensures { λ r. ⌜ (r, now (told .exit)) ≡ listedTold next (now (told .entry)) ⌝ }
+{
+    match next {
+        Listed::Bucket(i, at) => tell(told, 0, i as u64, at),
+        Listed::NoMore => tell(told, NO_MORE, 0, 0),
+        Listed::Stopped(n) => tell(told, n, 0, 0),
+    }
+}
+
+// ---- create and append
+
+fn is_lendable(size: usize, len: usize) -> bool
+    requires { ⌜ pageTaken size ≡ true ⌝ }
+    ensures { λ r. ⌜ r ≡ lendable (arenaLimitFor size) len ⌝ }
+{
+    (0 < len) & (len <= limits::ADDRESSES - size)
+}
+
+// What creation takes.
+fn is_creatable(
+    capacity: usize,
+    size: usize,
+    words: usize,
+    key_bytes: usize,
+    list_bytes: usize,
+) -> bool
+    ensures { λ r. ⌜ r ≡ creatable capacity size words «key_bytes» «list_bytes» ⌝ }
+{
+    if !memory_arena::is_page_size(size) {
+        return false;
+    }
+    let rounded = shared_arena_hashmap::compute_previous_power_of_two(capacity);
+    let a = is_lendable(size, key_bytes);
+    let b = is_lendable(size, list_bytes);
+    let c = store::check::is_taken(words);
+    (0 < capacity) & (a & (b & (c & (rounded <= words / 2))))
+}
+
+fn save_created(state: &mut [u8], answer: Created) -> u32
+    requires { ⌜ areaSize ≤ length (now state) ⌝ }
+    ensures { λ r. ⌜ (r, now (state .exit)) ≡ savedCreated answer (now (state .entry)) ⌝ }
+{
+    match answer {
+        Created::Made(st) => {
+            state_area::save(state, st);
+            0
+        }
+        Created::Barred(n) => n,
+    }
+}
+
+// A fresh store over lent words and pages of `size` bytes; its state goes to the area.
+#[no_mangle]
+pub extern "C" fn nuvrisel_create(
+    state: &mut [u8],
+    capacity: usize,
+    seed: u32,
+    size: usize,
+    table: &mut [u32],
+    keys: &[u8],
+    lists: &[u8],
+) -> u32
+    ensures settled { λ r. ⌜ ((r, now (state .exit)), now (table .exit))
+        ≡ createIn capacity seed size (now (state .entry)) (now (table .entry)) (length (now (keys .entry)))
+        (length (now (lists .entry))) ⌝ }
+{
+    if !is_creatable(capacity, size, table.len(), keys.len(), lists.len()) {
+        return 1;
+    }
+    if state.len() < state_area::AREA_SIZE {
+        return 2;
+    }
+    let answer = store::create::create(capacity, seed, size, table, keys, lists);
+    save_created(state, answer)
+}
+
+fn save_appended(state: &mut [u8], answer: Appended) -> u32
+    requires { ⌜ areaSize ≤ length (now state) ⌝ }
+    ensures { λ r. ⌜ (r, now (state .exit)) ≡ savedAppended answer (now (state .entry)) ⌝ }
+{
+    match answer {
+        Appended::Accepted(st) => {
+            state_area::save(state, st);
+            0
+        }
+        Appended::Declined(_, n) => n,
+    }
+}
+
+// Appends bytes to the lane of a name.
+#[no_mangle]
+pub extern "C" fn nuvrisel_append(
+    state: &mut [u8],
+    table: &mut [u32],
+    keys: &mut [u8],
+    lists: &mut [u8],
+    name: &[u8],
+    bytes: &[u8],
+) -> u32
+    ensures settled { λ r. ⌜ ((r, now (state .exit)), lent (now (table .exit)) (now (keys .exit)) (now (lists .exit)))
+        ≡ appendIn (now (state .entry)) (lent (now (table .entry)) (now (keys .entry)) (now (lists .entry)))
+        (now (name .entry)) (now (bytes .entry)) ⌝ }
+{
+    if !state_area::is_sensible_area(state) {
+        return 2;
+    }
+    let st = state_area::load(state);
+    let r = store::write::append(st, table, keys, lists, name, bytes);
+    let answer = r.answer;
+    save_appended(state, answer)
+}
+
+// ---- what changes nothing but an output
+
+// The place of a name's record.
+#[no_mangle]
+pub extern "C" fn nuvrisel_lookup(
+    state: &[u8],
+    table: &[u32],
+    keys: &[u8],
+    lists: &[u8],
+    name: &[u8],
+    told: &mut [u32],
+) -> u32
+    ensures settled { λ r. ⌜ (r, now (told .exit))
+        ≡ lookupIn (now (state .entry)) (lent (now (table .entry)) (now (keys .entry)) (now (lists .entry)))
+        (now (name .entry)) (now (told .entry)) ⌝ }
+{
+    if !state_area::is_sensible_area(state) {
+        return tell(told, 2, 0, 0);
+    }
+    let st = state_area::load(state);
+    let r = store::look::lookup(st, table, keys, lists, name);
+    let found = r.answer;
+    tell_lookup(told, found)
+}
+
+// A lane's length.
+#[no_mangle]
+pub extern "C" fn nuvrisel_length(
+    state: &[u8],
+    table: &[u32],
+    keys: &[u8],
+    lists: &[u8],
+    name: &[u8],
+    told: &mut [u32],
+) -> u32
+    ensures settled { λ r. ⌜ (r, now (told .exit))
+        ≡ lengthIn (now (state .entry)) (lent (now (table .entry)) (now (keys .entry)) (now (lists .entry)))
+        (now (name .entry)) (now (told .entry)) ⌝ }
+{
+    if !state_area::is_sensible_area(state) {
+        return tell(told, 2, 0, 0);
+    }
+    let st = state_area::load(state);
+    let r = store::look::length(st, table, keys, lists, name);
+    let answer = r.answer;
+    tell_answer(told, answer)
+}
+
+// The next occupied bucket from an index on, and its record's place.
+#[no_mangle]
+pub extern "C" fn nuvrisel_next(
+    state: &[u8],
+    table: &[u32],
+    keys: &[u8],
+    lists: &[u8],
+    index: usize,
+    told: &mut [u32],
+) -> u32
+    ensures settled { λ r. ⌜ (r, now (told .exit))
+        ≡ nextIn (now (state .entry)) (lent (now (table .entry)) (now (keys .entry)) (now (lists .entry))) index
+        (now (told .entry)) ⌝ }
+{
+    if !state_area::is_sensible_area(state) {
+        return tell(told, 2, 0, 0);
+    }
+    let st = state_area::load(state);
+    let next = store::look::next_occupied(st, table, keys, lists, index);
+    tell_listed(told, next)
+}
+
+// A lane's bytes to the front of the output.
+#[no_mangle]
+pub extern "C" fn nuvrisel_read(
+    state: &[u8],
+    table: &[u32],
+    keys: &[u8],
+    lists: &[u8],
+    name: &[u8],
+    output: &mut [u8],
+    told: &mut [u32],
+) -> u32
+    ensures settled { λ r. ⌜ ((r, now (told .exit)), now (output .exit))
+        ≡ readIn (now (state .entry)) (lent (now (table .entry)) (now (keys .entry)) (now (lists .entry)))
+        (now (name .entry)) (now (output .entry)) (now (told .entry)) ⌝ }
+{
+    if !state_area::is_sensible_area(state) {
+        return tell(told, 2, 0, 0);
+    }
+    let st = state_area::load(state);
+    let r = store::look::read(st, table, keys, lists, name, output);
+    let answer = r.answer;
+    tell_answer(told, answer)
+}
