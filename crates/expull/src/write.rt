@@ -101,7 +101,7 @@ fn ensure_capacity(lists: &mut [u8], w: Extended) -> Extended
 }
 
 // Writes bytes that fit the last block.
-fn put_chunk(lists: &mut [u8], w: Extended, bytes: &[u8]) -> Extended
+pub fn put_chunk(lists: &mut [u8], w: Extended, bytes: &[u8]) -> Extended
     requires { ⌜ (length (now bytes) ≤ w .header .remaining) × ((w .header .tail + length (now bytes) ≤ length (now lists)) × (length (now lists) ≤ arenaLimit)) ⌝ }
     ensures { λ r. ⌜ writing (now (lists .exit)) (r .arena) (r .header) ≡ filled (now (bytes .entry)) (writing (now (lists .entry)) (w .arena) (w .header)) ⌝ }
 {

@@ -1,13 +1,13 @@
-// Bytes copied between slices of equal length (fastcpy.rs of the Rust crate): short ones in two steps, by copying the first bytes
-// and the last bytes, which overlap, instead of going on with what is left after the first ones.
+// Bytes copied between slices of equal length (fastcpy.rs of the Rust crate): short ones by words that may overlap,
+// instead of going on with what is left after the first ones.
 //
 // It promises, for any two slices, exactly the answer and what the destination holds afterwards: unequal lengths, a panic there,
 // are refusal 9, and nothing is written. `copy_in`, which writes to a place of a memory, asks that there is room: the layers above
-// have shown that before they call. The AVX branch is not carried over; what was a constant parameter there, the size of a part,
-// is a number here. It uses limits (what an answer says) and spans.
+// have shown that before they call. The AVX branch is not carried over. It uses limits (what an answer says), numbers
+// and spans.
 ghost use mathlib.Core.Bool.{true};
 ghost use mathlib.Core.Path.{_≡_};
-ghost use Prim.Native.Nat.{_+_, _*_, _≤_, _<_};
+ghost use Prim.Native.Nat.{_+_, _≤_, _<_};
 ghost use lib.ListN.{length};
 ghost use Rattle.limits.specs.Refusals.{copying, permitted};
 ghost use Rattle.spans.specs.Span.{overwrite};
@@ -27,49 +27,55 @@ pub fn fast_short_slice_copy(src: &[u8], dst: &mut [u8]) -> Copied
         return Copied::Refused(9);
     }
     let len = src.len();
-    if len == 0 {
+    if 16 < len {
+        copy_from_slice(src, dst);
         return Copied::Done;
     }
     if len < 4 {
-        short_copy(src, dst);
+        copy_upto_3(src, dst);
         return Copied::Done;
     }
-    if len < 8 {
-        double_copy_trick(src, dst, 4);
-        return Copied::Done;
-    }
-    if len <= 16 {
-        double_copy_trick(src, dst, 8);
-        return Copied::Done;
-    }
-    if len <= 32 {
-        double_copy_trick(src, dst, 16);
-        return Copied::Done;
-    }
-    copy_from_slice(src, dst);
+    copy_words(src, dst);
     Copied::Done
 }
 
-// One to three bytes.
-fn short_copy(src: &[u8], dst: &mut [u8])
-    requires { ⌜ (0 < length (now src)) × ((length (now src) < 4) × (length (now src) ≡ length (now dst))) ⌝ }
+// No byte to three: the first, the middle and the last one.
+fn copy_upto_3(src: &[u8], dst: &mut [u8])
+    requires { ⌜ (length (now src) < 4) × (length (now src) ≡ length (now dst)) ⌝ }
     ensures { λ _. ⌜ now (dst .exit) ≡ now (src .entry) ⌝ }
 {
     let len = src.len();
-    dst[0] = src[0];
-    if len >= 2 {
-        double_copy_trick(src, dst, 2);
+    if len == 0 {
+        return;
     }
+    let m = len / 2;
+    let e = len - 1;
+    let a = src[0];
+    let b = src[m];
+    let c = src[e];
+    dst[0] = a;
+    dst[m] = b;
+    dst[e] = c;
 }
 
-// The first part and the last part, which cover the slice.
-fn double_copy_trick(src: &[u8], dst: &mut [u8], size: usize)
-    requires { ⌜ (size ≤ length (now src)) × ((length (now src) ≤ 2 * size) × (length (now src) ≡ length (now dst))) ⌝ }
+// Four bytes to sixteen: four words, all read before one is written. The first and the last two cover up to eight,
+// all of them up to sixteen.
+fn copy_words(src: &[u8], dst: &mut [u8])
+    requires { ⌜ (4 ≤ length (now src)) × ((length (now src) ≤ 16) × (length (now src) ≡ length (now dst))) ⌝ }
     ensures { λ _. ⌜ now (dst .exit) ≡ now (src .entry) ⌝ }
 {
-    copy_from_slice(&src[0..size], &mut dst[0..size]);
-    let from = src.len() - size;
-    copy_from_slice(&src[from..], &mut dst[from..]);
+    let len = src.len();
+    let second = (len - 1) / 8 * 4;
+    let last = len - 4;
+    let third = last - second;
+    let a = spans::get_u32(src, 0);
+    let b = spans::get_u32(src, second);
+    let c = spans::get_u32(src, third);
+    let d = spans::get_u32(src, last);
+    spans::put_u32(dst, 0, a);
+    spans::put_u32(dst, second, b);
+    spans::put_u32(dst, third, c);
+    spans::put_u32(dst, last, d);
 }
 
 // Byte by byte.

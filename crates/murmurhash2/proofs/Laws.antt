@@ -1,10 +1,11 @@
 -- Laws of specs/Murmur.antt: what one to three bytes give, and a turn of four bytes. Assumes nothing.
-use Prim.Native.Nat.{ℕ, _+_, _≤_}
+use Prim.Native.Nat.{ℕ, zero, suc, _+_, _-_, _*_, _/_, _^_, _≤_, _<_}
 use mathlib.Core.Path.{_≡_, refl, sym, ap, _∙_}
 use mathlib.Core.List.{List, [], _∷_, _++_}
+use native.Mathlib.Nat.{add-zero, add-assoc}
 use native.Mathlib.Omega.{arith}
-use lib.ListN.{length, drop, getD, take-append-drop}
-use lib.Seq.{drop-drop}
+use lib.ListN.{length, take, drop, getD, length-drop, take-append-drop}
+use lib.Seq.{drop-drop, getD-drop}
 use lib.Bits.{bitXor}
 use Rattle.numbers.specs.Wrap.{wrapMul}
 use Rattle.numbers.specs.LittleEndian.{leNumber}
@@ -53,3 +54,45 @@ from-span s i n = sym (rw (← drop-drop n i s) (take-append-drop n (drop i s)))
 pub taken-turn : (h : ℕ) (s : List ℕ) (i : ℕ) → i + 4 ≤ length s → taken h (drop i s) ≡ taken (turned h (leNumber (readSpan i 4 s))) (drop (i + 4) s)
 unfolding taken
 taken-turn h s i k = rw (from-span s i 4, span-4 i s k)
+
+-- ---- the last one to three of four bytes, from the number of all four
+
+shift-1 : (a b c d : ℕ) → a < 256 → b < 256 → c < 256 → leNumber (a ∷ b ∷ c ∷ d ∷ []) / 16777216 ≡ leNumber
+    (d ∷ 0 ∷ 0 ∷ [])
+unfolding leNumber
+shift-1 a b c d f g h = omega arith
+
+shift-2 : (a b c d : ℕ) → a < 256 → b < 256 → c < 256 → leNumber (a ∷ b ∷ c ∷ d ∷ []) / 65536 ≡ leNumber
+    (c ∷ d ∷ 0 ∷ [])
+unfolding leNumber
+shift-2 a b c d f g h = omega arith
+
+shift-3 : (a b c d : ℕ) → a < 256 → leNumber (a ∷ b ∷ c ∷ d ∷ []) / 256 ≡ leNumber (b ∷ c ∷ d ∷ [])
+unfolding leNumber
+shift-3 a b c d f = omega arith
+
+-- what is behind the last whole four, from the last four of the key
+pub taken-tail : (h : ℕ) (s : List ℕ) (k : ℕ) → ((i : ℕ) → getD s i 0 < 256) → 4 ≤ length s → 0 < k → k < 4
+    → wrapMul (bitXor h (leNumber (readSpan (length s - 4) 4 s) / 2 ^ (32 - 8 * k))) m ≡ taken h (drop (length s - k) s)
+taken-tail h s zero f l z u = absurd (omega arith)
+taken-tail h s (suc zero) f l z u =
+    let p = length s - 4 in
+    let e : leNumber (readSpan p 4 s) / 16777216 ≡ leNumber (getD s (p + 3) 0 ∷ 0 ∷ 0 ∷ []) =
+    rw (span-4 p s (omega arith)) (shift-1 _ _ _ _ (f p) (f (p + 1)) (f (p + 2))) in
+    let q : length s - 1 ≡ p + 3 = omega arith in
+    rw (q, e) (sym (taken-1 h (drop (p + 3) s) (simp length-drop (omega arith)) ∙ simp (getD-drop, add-zero)))
+taken-tail h s (suc (suc zero)) f l z u =
+    let p = length s - 4 in
+    let e : leNumber (readSpan p 4 s) / 65536 ≡ leNumber (getD s (p + 2) 0 ∷ getD s (p + 3) 0 ∷ 0 ∷ []) =
+    rw (span-4 p s (omega arith)) (shift-2 _ _ _ _ (f p) (f (p + 1)) (f (p + 2))) in
+    let q : length s - 2 ≡ p + 2 = omega arith in
+    rw (q, e) (sym (taken-2 h (drop (p + 2) s) (simp length-drop (omega arith)) ∙ simp
+    (getD-drop, add-zero, add-assoc)))
+taken-tail h s (suc (suc (suc zero))) f l z u =
+    let p = length s - 4 in
+    let e : leNumber (readSpan p 4 s) / 256 ≡ leNumber (getD s (p + 1) 0 ∷ getD s (p + 2) 0 ∷ getD s (p + 3) 0 ∷ []) =
+    rw (span-4 p s (omega arith)) (shift-3 _ _ _ _ (f p)) in
+    let q : length s - 3 ≡ p + 1 = omega arith in
+    rw (q, e) (sym (taken-3 h (drop (p + 1) s) (simp length-drop (omega arith)) ∙ simp
+    (getD-drop, add-zero, add-assoc)))
+taken-tail h s (suc (suc (suc (suc k)))) f l z u = absurd (omega arith)

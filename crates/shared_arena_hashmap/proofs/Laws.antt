@@ -1,12 +1,13 @@
--- What follows from the rules of buckets: powers of two, lengths, records that were met, and each loop's turn and end.
--- Assumes nothing.
-use Prim.Native.Nat.{ℕ, zero, suc, _+_, _-_, _*_, _/_, _^_, _≤_, _<_, min}
+-- What follows from the rules of buckets: powers of two, lengths, records that were met, and each loop's turn and
+-- end. Assumes nothing.
+use Prim.Native.Nat.{ℕ, zero, suc, _+_, _-_, _*_, _%_, _^_, _≤_, _<_, min}
 use mathlib.Core.Path.{_≡_, refl, sym, ap, _∙_, subst}
 use mathlib.Core.Bool.{Bool, true, false, cond}
 use mathlib.Core.List.{List, [], _∷_}
 use native.Mathlib.Nat.{not-suc-le-zero, pow-succ', mul-assoc, mul-comm, max-eq-left, max-eq-right}
 use native.Mathlib.Omega.{arith}
 use lib.Dec.{leb, eqb}
+use lib.Bits.{bitAnd, and-mask}
 use lib.Pow.{pow-pos, pow-mono}
 use lib.ListN.{length, set, take, drop}
 use borrow.Author.Tests.{le-leb, lt-leb, leb-true, leb-false, eq-eqb, eqb-true}
@@ -146,38 +147,33 @@ grown-is-power l e h = power-made (grownLength l) (go (power-facts l e) (leb 64 
         let s : 2 * l ≤ 8 = omega (arith, leb-false 4 l q) in
         record { some = omega arith; exponent = 3; is = max-eq-right s; small = omega arith }
 
--- ---- a loop that doubles p while twice it is at most c
+-- ---- from code: the highest bit, and a remainder by a mask
 
-pub record Doubling (c p : ℕ) : Type 0 where
-  pub exponent : ℕ
-  pub left : ℕ
-  pub is : p ≡ 2 ^ exponent
-  pub whole : roundedDown c ≡ doubled left c p
-  pub turns : exponent + left ≡ 64
-
-pub doubling-start : (c : ℕ) → Doubling c 1
-unfolding roundedDown
-doubling-start c = record { exponent = 0; left = 64; is = refl; whole = refl; turns = refl }
-
-pub doubling-turn : (c p : ℕ) → c < 2 ^ 64 → p ≤ c / 2 → Doubling c p → Doubling c (p * 2)
-doubling-turn c p h g d = go (d .left) refl
+-- the power of two that is at most c and more than half of it
+pub rounded-at : (c k : ℕ) → 2 ^ k ≤ c → c < 2 ^ suc k → c < 2 ^ 64 → 2 ^ k ≡ roundedDown c
+rounded-at c k lo hi h =
+    let p = rounded-power c in
+    let e = p .exponent in
+    let within : 2 ^ e ≤ c = subst (λ (x : ℕ). x ≤ c) (p .is) (rounded-within c (omega (arith, pow-pos k))) in
+    let near : c < 2 ^ suc e = rw (pow-succ' 2 e) (subst (λ (x : ℕ). c < 2 * x) (p .is) (rounded-near c h)) in
+    go e (p .is) within near (leb k e) refl (leb e k) refl
   where
-    go : (n : ℕ) → d .left ≡ n → Doubling c (p * 2)
-    go zero e =
-        let x : d .exponent ≡ 64 = omega (arith, d .turns) in
-        let y : p ≡ 2 ^ 64 = d .is ∙ ap (λ (k : ℕ). 2 ^ k) x in
-        absurd (omega arith)
-    go (suc n) e =
-        record {
-          exponent = suc (d .exponent);
-          left = n;
-          is = rw mul-comm (ap (λ (x : ℕ). 2 * x) (d .is) ∙ sym (pow-succ' 2 (d .exponent)));
-          whole = d .whole ∙ rw (e, doubled-on n c p (omega arith), mul-comm p 2);
-          turns = omega (arith, d .turns);
-        }
+    go : (e : ℕ) → roundedDown c ≡ 2 ^ e → 2 ^ e ≤ c → c < 2 ^ suc e → (t : Bool) → leb k e ≡ t → (u : Bool)
+        → leb e k ≡ u → 2 ^ k ≡ roundedDown c
+    go e is within near false p u q = let z : 2 ^ suc e ≤ 2 ^ k = pow-mono (leb-false k e p) in absurd (omega arith)
+    go e is within near true p false q = let z : 2 ^ suc k ≤ 2 ^ e = pow-mono (leb-false e k q) in absurd (omega arith)
+    go e is within near true p true q =
+        let z : k ≡ e = omega (arith, leb-true k e p, leb-true e k q) in
+        ap (λ (x : ℕ). 2 ^ x) z ∙ sym is
 
-pub doubling-end : (c p : ℕ) → c / 2 < p → Doubling c p → p ≡ roundedDown c
-doubling-end c p h d = sym (d .whole ∙ doubled-stop (d .left) c p (omega arith))
+pub rounded-0 : 1 ≡ roundedDown 0
+unfolding roundedDown
+rounded-0 = sym (doubled-stop 64 0 1 (omega arith))
+
+pub masked : (l x : ℕ) → powerOfTwo l ≡ true → bitAnd x (l - 1) ≡ x % l
+masked l x e =
+    let p = power-facts l e in
+    subst (λ (n : ℕ). bitAnd x (n - 1) ≡ x % n) (sym (p .is)) (and-mask x (p .exponent))
 
 -- ---- buckets written
 

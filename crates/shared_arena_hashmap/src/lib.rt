@@ -12,7 +12,8 @@ ghost use Prim.Native.Nat.{_+_, _*_, _≤_, _<_, _^_};
 ghost use lib.ListN.{length};
 ghost use Rattle.memory_arena.specs.Calls.{sensible};
 ghost use Rattle.shared_arena_hashmap.specs.Power.{roundedDown, powerOfTwo};
-ghost use Rattle.shared_arena_hashmap.specs.Probe.{keyLength, goodRecord, seenRecord, seenAt, nextBucket, lookup, occupiedFrom};
+ghost use Rattle.shared_arena_hashmap.specs.Probe.{keyLength, goodRecord, seenRecord, seenAt, startOf};
+ghost use Rattle.shared_arena_hashmap.specs.Probe.{nextBucket, lookup, occupiedFrom};
 
 // What a bucket is to a lookup: empty, the name's own with its record's place, a broken record, or another's.
 pub enum Seen {
@@ -42,16 +43,15 @@ pub enum Next {
     NoMore,
 }
 
-// The largest power of two that is at most a capacity, which is at least 1. It never doubles past the capacity.
+// The largest power of two that is at most a capacity, which is at least 1: its highest bit.
 pub fn compute_previous_power_of_two(n: usize) -> usize
     ensures { λ r. ⌜ r ≡ roundedDown n ⌝ }
 {
-    let mut p: usize = 1;
-    let half = n / 2;
-    while p <= half {
-        p = p * 2;
+    if n == 0 {
+        return 1;
     }
-    p
+    let zeros = u64::leading_zeros(n as u64);
+    1usize << (63 - zeros)
 }
 
 pub fn is_power_of_two(n: usize) -> bool
@@ -125,6 +125,14 @@ fn next_bucket(l: usize, i: usize) -> usize
     i + 1
 }
 
+// Where the probe of a hash starts. The length is a power of two, so a mask gives the remainder.
+fn start_bucket(l: usize, hash: u32) -> usize
+    requires { ⌜ powerOfTwo l ≡ true ⌝ }
+    ensures { λ r. ⌜ (r ≡ startOf l hash) × (r < l) ⌝ }
+{
+    ((hash as usize) + 1) & (l - 1)
+}
+
 // A lookup in the standing table of l buckets from bucket `first` on.
 pub fn find(
     table: &[u32],
@@ -135,10 +143,11 @@ pub fn find(
     hash: u32,
     name: &[u8],
 ) -> Walk
-    requires { ⌜ (sensible arena (length (now keys)) ≡ true) × ((0 < l) × (2 * (first + l) ≤ length (now table))) ⌝ }
+    requires { ⌜ (sensible arena (length (now keys)) ≡ true) × ((powerOfTwo l ≡ true) × (2 * (first + l) ≤ length
+        (now table))) ⌝ }
     ensures { λ r. ⌜ r ≡ lookup (now (table .entry)) (now (keys .entry)) arena first l hash (now (name .entry)) ⌝ }
 {
-    let mut i = ((hash as usize) + 1) % l;
+    let mut i = start_bucket(l, hash);
     let mut left = l;
     let mut looked: usize = 0;
     while 0 < left {

@@ -6,3 +6,4 @@ pub mod Look
 pub mod Append
 pub mod Promises
 pub mod Cases
+pub mod Quick

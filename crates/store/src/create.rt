@@ -18,8 +18,9 @@ fn is_lendable(size: usize, len: usize) -> bool
     (0 < len) & (len <= limits::ADDRESSES - size)
 }
 
-// What creation takes. The rounded capacity is compared with the lent buckets, never doubled: it may be 2^63.
-fn is_creatable(
+// What creation takes. The rounded capacity is compared with the lent buckets, never doubled: it may be 2^63. Public
+// for a caller that may refuse a creation by a higher number, and must not where this refuses it.
+pub fn is_creatable(
     capacity: usize,
     size: usize,
     words: usize,

@@ -7,6 +7,7 @@
 pub mod check;
 pub mod create;
 pub mod look;
+pub mod quick;
 pub mod write;
 
 use expull::Header;

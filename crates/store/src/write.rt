@@ -27,7 +27,7 @@ ghost use Rattle.store.specs.Name.{nameLimitOf};
 ghost use Rattle.store.specs.Look.{lent, checked, walkOf, lookedOf};
 ghost use Rattle.store.specs.Append.{out, roomToGrow, isSaturated, isCrowded, grownState, stateGrown, tableGrown, movedState, appendStanding, Planned, standingWritten, recordBytes, newWritten, appendNew, onMet, appendOf};
 
-fn is_saturated(st: State) -> bool
+pub fn is_saturated(st: State) -> bool
     requires { ⌜ (st .keys ≤ st .buckets) × (st .buckets ≤ bucketLimit) ⌝ }
     ensures { λ r. ⌜ r ≡ isSaturated st ⌝ }
 {

@@ -6,7 +6,6 @@ use borrow.Author.Needs.{needs}
 use lib.ListN.{length}
 use Rattle.store.proofs.Whole.{Whole, whole-facts, first-in}
 use Rattle.store.specs.Look.{walkOf}
-use Rattle.shared_arena_hashmap.proofs.Laws.{power-facts}
 use Rattle.shared_arena_hashmap.specs.Probe.{lookup}
 use Rattle.store.proofs.walk.Statement.{statement}
 use Rattle.store.proofs.walk.Tie as tie
@@ -24,8 +23,15 @@ murmurhash2-requires c κs = search needs
 find-requires : tie.Need-find-requires
 find-requires c κs =
     let s = c .before .before .before .before .before .before .before in
-    let h = whole s in
-    (h .key-arena, (power-facts (s .args .st .buckets) (h .power) .some, subst (λ (f : ℕ). 2 * (f + s .args .st .buckets) ≤ length (s .args .table .now)) (sym (c .before .first-bucket .ensures)) (first-in (s .args .st) (length (s .args .table .now)) (h .words-is) (h .buckets-le))))
+    let h = whole s in (
+      h .key-arena,
+      (
+        h .power,
+        subst (λ (f : ℕ). 2 * (f + s .args .st .buckets) ≤ length (s .args .table .now)) (sym
+            (c .before .first-bucket .ensures)) (first-in (s .args .st) (length (s .args .table .now)) (h .words-is) (h
+            .buckets-le)),
+      ),
+    )
 
 returns : tie.Need-returns
 unfolding walkOf

@@ -1,0 +1,128 @@
+// A short way for what nearly every append is: the lane stands, the bytes fit its last block, and the table stays.
+use crate::Head;
+use crate::Name;
+use crate::State;
+use expull::Extended;
+use shared_arena_hashmap::Met;
+ghost use mathlib.Core.Path.{_≡_};
+ghost use mathlib.Core.Bool.{true};
+ghost use Prim.Native.Nat.{_+_, _≤_};
+ghost use lib.ListN.{length};
+ghost use Rattle.limits.specs.Limits.{pageTaken, bucketLimit};
+ghost use Rattle.spans.specs.Span.{overwrite};
+ghost use Rattle.memory_arena.specs.Calls.{sensible};
+ghost use Rattle.shared_arena_hashmap.specs.Probe.{valuePlace};
+ghost use Rattle.expull.specs.Header.{headerBytes};
+ghost use Rattle.store.specs.Name.{nameKind};
+ghost use Rattle.store.specs.Look.{lent, checked};
+ghost use Rattle.store.specs.Append.{appendStanding, appendOf};
+ghost use Rattle.store.specs.Quick.{Quick, quickly, quickOf};
+
+// Whether a name of n bytes is one that a lane can have.
+fn is_proper(st: State, n: usize) -> bool
+    ensures { λ r. ⌜ (r ≡ true → nameKind st n ≡ Name.Proper) ⌝ }
+{
+    if n == 0 {
+        return false;
+    }
+    n <= crate::name_limit(st)
+}
+
+// Whether an append of n bytes to the lane at a place needs no block, and leaves the table as it is.
+fn is_quick(st: State, keys: &[u8], at: u32, n: usize) -> bool
+    requires { ⌜ (at + 2 ≤ length (now keys)) × (valuePlace (now keys) at + 16 ≤ length (now keys)) ⌝ }
+    requires { ⌜ (st .keys ≤ st .buckets) × (st .buckets ≤ bucketLimit) ⌝ }
+    requires { ⌜ pageTaken (st .«list_arena» .size) ≡ true ⌝ }
+    ensures { λ r. ⌜ (r ≡ true → Quick st (now (keys .entry)) at n) ⌝ }
+{
+    let arena = st.list_arena;
+    let head = crate::get_head(keys, at);
+    let Head::Sound(h) = head else {
+        return false;
+    };
+    if !expull::write::is_good_tail(arena, h) {
+        return false;
+    }
+    if (h.remaining as usize) < n {
+        return false;
+    }
+    if n == 0 {
+        return false;
+    }
+    !crate::write::is_saturated(st)
+}
+
+// Such an append: the bytes to the last block, and the header moved on.
+fn write_quick(st: State, keys: &mut [u8], lists: &mut [u8], at: u32, bytes: &[u8])
+    requires { ⌜ Quick st (now keys) at (length (now bytes)) ⌝ }
+    requires { ⌜ (sensible (st .«list_arena») (length (now lists)) ≡ true)
+        × ((at + 2 ≤ length (now keys)) × (valuePlace (now keys) at + 16 ≤ length (now keys))) ⌝ }
+    ensures { λ _. ⌜ (now (keys .exit)
+        ≡ overwrite (valuePlace (now (keys .entry)) at)
+        (headerBytes (quickly st (now (keys .entry)) (now (lists .entry)) at (now (bytes .entry)) .header))
+        (now (keys .entry)))
+        × (now (lists .exit)
+        ≡ quickly st (now (keys .entry)) (now (lists .entry)) at (now (bytes .entry)) .memory) ⌝ }
+{
+    let arena = st.list_arena;
+    let place = crate::value_place(keys, at);
+    let h = expull::headers::get_header(keys, place);
+    let w = Extended { header: h, arena };
+    let list = expull::write::put_chunk(lists, w, bytes);
+    expull::headers::put_header(keys, place, list.header);
+}
+
+// The same for the lane at a place, where it is such an append.
+fn quick_standing(
+    st: State,
+    table: &[u32],
+    keys: &mut [u8],
+    lists: &mut [u8],
+    at: u32,
+    bytes: &[u8],
+) -> bool
+    requires { ⌜ (checked st (lent (now table) (now keys) (now lists)) ≡ true)
+        × ((at + 2 ≤ length (now keys)) × (valuePlace (now keys) at + 16 ≤ length (now keys))) ⌝ }
+    ensures { λ r. ⌜ quickOf r st (lent (now (table .entry)) (now (keys .entry)) (now (lists .entry)))
+        (lent (now (table .entry)) (now (keys .exit)) (now (lists .exit)))
+        (appendStanding st (lent (now (table .entry)) (now (keys .entry)) (now (lists .entry))) at
+        (now (bytes .entry))) ⌝ }
+{
+    if is_quick(st, keys, at, bytes.len()) {
+        write_quick(st, keys, lists, at, bytes);
+        return true;
+    }
+    false
+}
+
+// Does an append that is such a one, and answers true: the state stays as it is. Else it changes nothing and answers
+// false: `append` then is to be called, which knows every case.
+pub fn append_quickly(
+    st: State,
+    table: &[u32],
+    keys: &mut [u8],
+    lists: &mut [u8],
+    name: &[u8],
+    bytes: &[u8],
+) -> bool
+    ensures { λ r. ⌜ quickOf r st (lent (now (table .entry)) (now (keys .entry)) (now (lists .entry)))
+        (lent (now (table .entry)) (now (keys .exit)) (now (lists .exit)))
+        (appendOf st (lent (now (table .entry)) (now (keys .entry)) (now (lists .entry))) (now (name .entry))
+        (now (bytes .entry))) ⌝ }
+{
+    if !crate::check::is_whole_state(st, table.len(), keys.len(), lists.len()) {
+        return false;
+    }
+    if !is_proper(st, name.len()) {
+        return false;
+    }
+    let arena = st.key_arena;
+    let first = crate::first_bucket(st);
+    let hash = murmurhash2::murmurhash2(name, st.seed);
+    let w = shared_arena_hashmap::find(table, keys, arena, first, st.buckets, hash, name);
+    let met = w.met;
+    let Met::Standing(at) = met else {
+        return false;
+    };
+    quick_standing(st, table, keys, lists, at, bytes)
+}
