@@ -17,13 +17,12 @@ ghost use mathlib.Core.Path.{_≡_};
 ghost use mathlib.Core.Bool.{true};
 ghost use Prim.Native.Nat.{_≤_};
 ghost use lib.ListN.{length};
-ghost use Rattle.limits.specs.Limits.{pageTaken, arenaLimitFor};
-ghost use Rattle.memory_arena.specs.Pages.{lendable};
-ghost use Rattle.store.specs.Create.{creatable};
+ghost use Rattle.store.specs.Append.{appendOf};
 ghost use Rattle.store.specs.Look.{lent};
-ghost use Rattle.state_area.specs.Area.{areaSize};
+ghost use Rattle.state_area.specs.Area.{areaSize, sensibleArea, stateAt};
 ghost use Rattle.c_exports.specs.Calls.{says, numberIn, answerTold, lookupTold, listedTold, savedCreated};
-ghost use Rattle.c_exports.specs.Calls.{createIn, savedAppended, appendIn, lookupIn, lengthIn, nextIn, readIn};
+ghost use Rattle.c_exports.specs.Calls.{createIn, savedAppended, appended, appendIn, lookupIn, lengthIn};
+ghost use Rattle.c_exports.specs.Calls.{nextIn, readIn};
 
 // ---- what is said in numbers
 
@@ -89,33 +88,6 @@ fn tell_listed(told: &mut [u32], next: Listed) -> u32
 
 // ---- create and append
 
-fn is_lendable(size: usize, len: usize) -> bool
-    requires { ⌜ pageTaken size ≡ true ⌝ }
-    ensures { λ r. ⌜ r ≡ lendable (arenaLimitFor size) len ⌝ }
-{
-    (0 < len) & (len <= limits::ADDRESSES - size)
-}
-
-// What creation takes.
-fn is_creatable(
-    capacity: usize,
-    size: usize,
-    words: usize,
-    key_bytes: usize,
-    list_bytes: usize,
-) -> bool
-    ensures { λ r. ⌜ r ≡ creatable capacity size words «key_bytes» «list_bytes» ⌝ }
-{
-    if !memory_arena::is_page_size(size) {
-        return false;
-    }
-    let rounded = shared_arena_hashmap::compute_previous_power_of_two(capacity);
-    let a = is_lendable(size, key_bytes);
-    let b = is_lendable(size, list_bytes);
-    let c = store::check::is_taken(words);
-    (0 < capacity) & (a & (b & (c & (rounded <= words / 2))))
-}
-
 fn save_created(state: &mut [u8], answer: Created) -> u32
     requires { ⌜ areaSize ≤ length (now state) ⌝ }
     ensures { λ r. ⌜ (r, now (state .exit)) ≡ savedCreated answer (now (state .entry)) ⌝ }
@@ -144,7 +116,7 @@ pub extern "C" fn nuvrisel_create(
         ≡ createIn capacity seed size (now (state .entry)) (now (table .entry)) (length (now (keys .entry)))
         (length (now (lists .entry))) ⌝ }
 {
-    if !is_creatable(capacity, size, table.len(), keys.len(), lists.len()) {
+    if !store::create::is_creatable(capacity, size, table.len(), keys.len(), lists.len()) {
         return 1;
     }
     if state.len() < state_area::AREA_SIZE {
@@ -167,6 +139,28 @@ fn save_appended(state: &mut [u8], answer: Appended) -> u32
     }
 }
 
+// An append of any kind, on an area that was found sensible. The state is read from it again: one that had to be kept
+// since the short way was tried would cost every append.
+fn append_fully(
+    state: &mut [u8],
+    table: &mut [u32],
+    keys: &mut [u8],
+    lists: &mut [u8],
+    name: &[u8],
+    bytes: &[u8],
+) -> u32
+    requires { ⌜ sensibleArea (now state) ≡ true ⌝ }
+    ensures { λ r. ⌜ ((r, now (state .exit)), lent (now (table .exit)) (now (keys .exit)) (now (lists .exit)))
+        ≡ appended (appendOf (stateAt (now (state .entry)))
+        (lent (now (table .entry)) (now (keys .entry)) (now (lists .entry))) (now (name .entry)) (now (bytes .entry)))
+        (now (state .entry)) ⌝ }
+{
+    let st = state_area::load(state);
+    let r = store::write::append(st, table, keys, lists, name, bytes);
+    let answer = r.answer;
+    save_appended(state, answer)
+}
+
 // Appends bytes to the lane of a name.
 #[no_mangle]
 pub extern "C" fn nuvrisel_append(
@@ -185,9 +179,10 @@ pub extern "C" fn nuvrisel_append(
         return 2;
     }
     let st = state_area::load(state);
-    let r = store::write::append(st, table, keys, lists, name, bytes);
-    let answer = r.answer;
-    save_appended(state, answer)
+    if store::quick::append_quickly(st, table, keys, lists, name, bytes) {
+        return 0;
+    }
+    append_fully(state, table, keys, lists, name, bytes)
 }
 
 // ---- what changes nothing but an output
