@@ -52,7 +52,7 @@ times-end j n (m ∷ ns) = go (equalBytes j m) (times-end j n ns)
     go true e = omega arith
     go false e = e
 
-times-none : (j : List ℕ) (ns : List (List ℕ)) → among j ns ≡ false → times j ns ≡ 0
+pub times-none : (j : List ℕ) (ns : List (List ℕ)) → among j ns ≡ false → times j ns ≡ 0
 unfolding times among
 times-none j [] e = refl
 times-none j (n ∷ ns) e = go (equalBytes j n) e (times-none j ns)

@@ -49,7 +49,7 @@ unfolding reportOf
 report-is w ls output c e = rw (c, e)
 
 module _ (w : World) (calls : List Call) (D : Demand3 w calls) where
-  abbrev now : World
+  abbrev pub now : World
   now = play calls w
 
   -- ---- one lane that is listed
@@ -96,13 +96,13 @@ module _ (w : World) (calls : List Call) (D : Demand3 w calls) where
 
   -- ---- all of them
 
-  abbrev lanesFrom : ℕ → ℕ → List Lane
+  abbrev pub lanesFrom : ℕ → ℕ → List Lane
   lanesFrom n i = map (laneAt (now .memory)) (listedFrom now n i)
 
-  abbrev all : List Lane
+  abbrev pub all : List Lane
   all = map (laneAt (now .memory)) (listedPlaces now)
 
-  gathers : (n i : ℕ) → gatherFrom (now .state) (now .memory) n i ≡ gathered (lanesFrom n i)
+  pub gathers : (n i : ℕ) → gatherFrom (now .state) (now .memory) n i ≡ gathered (lanesFrom n i)
   unfolding gatherFrom listedFrom
   gathers zero i = refl
   gathers (suc n) i = go (nextOf (now .state) (now .memory) i) refl (gathers n)
@@ -129,13 +129,13 @@ module _ (w : World) (calls : List Call) (D : Demand3 w calls) where
       go NoMore e g = z
       go (Stopped k) e g = z
 
-  each-joined : EachJoined calls w all
+  pub each-joined : EachJoined calls w all
   unfolding laneAt
   each-joined =
       each-place Holds listed-holds (λ ps. EachJoined calls w (map (laneAt (now .memory)) ps)) tt
       (λ at ps h r. (h .own, r)) (now .state .buckets) 0
 
-  names-are : (ps : List ℕ) → names-of (map (laneAt (now .memory)) ps) ≡ map (keyAt (now .memory .keys)) ps
+  pub names-are : (ps : List ℕ) → names-of (map (laneAt (now .memory)) ps) ≡ map (keyAt (now .memory .keys)) ps
   unfolding laneAt
   names-are [] = refl
   names-are (at ∷ ps) = ap (λ (l : List (List ℕ)). keyAt (now .memory .keys) at ∷ l) (names-are ps)
