@@ -344,14 +344,30 @@ class Store:
 
     def lanes(self):
         """each listed lane, read through its own record"""
-        found, i = [], 0
+        i = 0
         while True:
             met = self.next(i)
             if met is None:
-                return found
+                return
             i, at = met[0] + 1, met[1]
             lane = self.lane(at)
-            found.append((bytes(self.keys[at + 2:at + 2 + number(self.keys[at:at + 2])]), lane))
+            yield bytes(self.keys[at + 2:at + 2 + number(self.keys[at:at + 2])]), lane
+
+    def join(self, second, scratch):
+        """each lane of a second store read into the scratch and appended: how many went across, and a refusal's number"""
+        across = 0
+        try:
+            self.check()
+            second.check()
+            for name, lane in second.lanes():
+                if len(lane) > len(scratch):
+                    raise Refused(8)
+                scratch[:len(lane)] = lane
+                self.append(name, lane)
+                across += 1
+        except Refused as e:
+            return across, e.number
+        return across, 0
 
     def found_in(self, name):
         """the bucket in which probing finds a name; None where it doesn't, damage on the way included"""
@@ -601,7 +617,9 @@ flat-length NAME
 flat-read NAME ROOM
 flat-poke PLACE BYTES
 flat-dump PLACE COUNT
-flat-sum""".split("\n")
+flat-sum
+on STORE
+join ROOM""".split("\n")
 COMMANDS = {u.split()[0]: u for u in USAGE}
 HELP = """# a command to a line, words one space apart; an empty line and one that begins with # are passed over
 # NUMBERS are decimal
@@ -658,9 +676,17 @@ def shown(b):
     return bytes(b).hex() or "-"
 
 
+# what each store lends at most: words, bytes of the key pages and of the list pages
+LENT = [(131072, 2 * PAGE, 3 * PAGE), (4096, 196608, 327680)]
+
+
 class Bench:
     def __init__(self):
-        self.st, self.flat = Store(), Flat(bytearray())
+        self.stores, self.now, self.flat = [Store(), Store()], 0, Flat(bytearray())
+
+    @property
+    def st(self):
+        return self.stores[self.now]
 
     def area(self, w):
         if w not in ("table", "keys", "lists"):
@@ -681,12 +707,14 @@ class Bench:
         w, k, l = num(w), num(k), num(l)
         if not re.fullmatch("[0-9a-f]{2}", hh):
             raise Fault("not bytes: hex pairs, - or N*HH joined by +, or ' and a name")
-        if w > 131072 or k > 2 * PAGE or l > 3 * PAGE:
-            raise Fault("no such memory: at most 131072 words, 2097152 and 3145728 bytes")
-        self.st, Store.walk = Store(), 0
-        self.st.table = [int(hh, 16) * 0x01010101] * w
-        self.st.keys = bytearray([int(hh, 16)]) * k
-        self.st.lists = bytearray([int(hh, 16)]) * l
+        most = LENT[self.now]
+        if w > most[0] or k > most[1] or l > most[2]:
+            raise Fault("no such memory: at most %d words, %d and %d bytes" % most)
+        st = self.stores[self.now] = Store()
+        Store.walk = 0
+        st.table = [int(hh, 16) * 0x01010101] * w
+        st.keys = bytearray([int(hh, 16)]) * k
+        st.lists = bytearray([int(hh, 16)]) * l
         return "lent"
 
     def create(self, cap, seed, size=str(PAGE)):
@@ -808,7 +836,7 @@ class Bench:
         if room > OUTPUT:
             raise Fault("output too long: at most 1048576")
         try:
-            text = report.text_of(self.st.lanes())
+            text = report.text_of(list(self.st.lanes()))
             if len(text) > room:
                 raise Refused(8, len(text))
             return "report %d %s kept" % (len(text), shown(text))
@@ -936,6 +964,23 @@ class Bench:
 
     def flat_sum(self):
         return "sum %d %d" % (murmur(0, self.flat.buffer), self.flat.used)
+
+    def on(self, store):
+        if num(store) not in (1, 2):
+            raise Fault("no such store: 1 or 2")
+        self.now = num(store) - 1
+        return "on %d" % num(store)
+
+    def join(self, room):
+        room = num(room)
+        if room > PAGE:
+            raise Fault("output too long: at most 1048576")
+        scratch = bytearray([0xee]) * room
+        walk = Store.walk
+        across, refused = self.stores[0].join(self.stores[1], scratch)
+        Store.walk = walk
+        said = "refused %d after %d" % (refused, across) if refused else "joined %d" % across
+        return "%s scratch %d" % (said, murmur(0, scratch))
 
     def help(self):
         return HELP + "\n" + "\n".join("# " + u for u in USAGE)

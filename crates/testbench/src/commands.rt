@@ -3,8 +3,8 @@ use script::rows;
 
 // A row a command: its number, then how it is written. The tens of the number say whose `play` has its arm: 1
 // bench_write, 2 bench_read, 3 bench_state, 4 bench_areas, 5 bench_lower, 6 bench_report, 7 bench_readings, 8
-// bench_pieces, 9 bench_check, 10 bench_flat; those below 10 are this program's.
-const TABLE: [u8; 888] = *b"1 lend WORDS KEYBYTES LISTBYTES HH
+// bench_pieces, 9 bench_check, 10 bench_flat, 11 bench_join; `on` and those below 10 are this program's.
+const TABLE: [u8; 915] = *b"1 lend WORDS KEYBYTES LISTBYTES HH
 10 create CAPACITY SEED [SIZE]
 11 append NAME BYTES
 20 lookup NAME
@@ -46,6 +46,8 @@ const TABLE: [u8; 888] = *b"1 lend WORDS KEYBYTES LISTBYTES HH
 106 flat-poke PLACE BYTES
 107 flat-dump PLACE COUNT
 108 flat-sum
+110 on STORE
+111 join ROOM
 ";
 
 // The number of the command that a line is, 0 where it can't be played.

@@ -1,18 +1,27 @@
-// The lines, played on the lent areas.
+// The lines, played on the lent areas of two stores and on the flat store's buffer.
 use crate::commands;
 use bench_flat::Flat;
 use bench_state::Played;
 use script::lines;
 use store::State;
+use text::fault;
+use text::words;
 
-// What the testbench remembers between lines: the store's state, the walk that the last call by name told, and how much
-// of each area is lent; the flat store's buffer and its used count.
+// What the testbench remembers of a store between lines: its state, the walk that the last call by name told, which is
+// one for both stores, and how much of each area is lent.
 struct Bench {
     st: State,
     walk: usize,
     words: usize,
     key_bytes: usize,
     list_bytes: usize,
+}
+
+// The two stores, whether the lines talk to the second, and the flat store's buffer and used count.
+struct Both {
+    one: Bench,
+    two: Bench,
+    is_second: bool,
     flat: Flat,
 }
 
@@ -23,26 +32,47 @@ fn fresh() -> Bench {
         words: 0,
         key_bytes: 0,
         list_bytes: 0,
+    }
+}
+
+fn fresh_both() -> Both {
+    Both {
+        one: fresh(),
+        two: fresh(),
+        is_second: false,
         flat: bench_flat::none(),
     }
 }
 
+// Why nothing was lent; the second store's memory is smaller.
+fn say_unlent(n: u32, is_second: bool) {
+    if is_second & (n == fault::NO_MEMORY) {
+        return say::line(b"? no such memory: at most 4096 words, 196608 and 327680 bytes");
+    }
+    say::fault(n)
+}
+
 // `lend WORDS KEYBYTES LISTBYTES HH`: the state is of zeros then.
-fn lend(b: Bench, line: &[u8], table: &mut [u32], keys: &mut [u8], lists: &mut [u8]) -> Bench {
+fn lend(
+    b: Bench,
+    is_second: bool,
+    line: &[u8],
+    table: &mut [u32],
+    keys: &mut [u8],
+    lists: &mut [u8],
+) -> Bench {
     let p = bench_areas::lend(line, table, keys, lists);
     if p.fault != 0 {
-        say::fault(p.fault);
+        say_unlent(p.fault, is_second);
         return b;
     }
     say::line(b"lent");
-    let flat = b.flat;
     Bench {
         st: bench_state::zeros(),
         walk: 0,
         words: p.words,
         key_bytes: p.key_bytes,
         list_bytes: p.list_bytes,
-        flat,
     }
 }
 
@@ -66,6 +96,77 @@ fn play_other(
     }
 }
 
+// A command on pieces. The numbers that it may give out have their places here, since none are kept between lines.
+fn play_pieces(
+    k: u64,
+    walk: usize,
+    st: State,
+    line: &[u8],
+    table: &[u32],
+    keys: &[u8],
+    lists: &[u8],
+    name: &mut [u8],
+    output: &mut [u8],
+) -> usize {
+    let mut numbers = [0u32; 16384];
+    pieces_into(
+        k,
+        walk,
+        st,
+        line,
+        table,
+        keys,
+        lists,
+        name,
+        output,
+        &mut numbers,
+    )
+}
+
+fn pieces_into(
+    k: u64,
+    walk: usize,
+    st: State,
+    line: &[u8],
+    table: &[u32],
+    keys: &[u8],
+    lists: &[u8],
+    name: &mut [u8],
+    output: &mut [u8],
+    numbers: &mut [u32; 16384],
+) -> usize {
+    bench_pieces::play(k, walk, st, line, table, keys, lists, name, output, numbers)
+}
+
+// A command on readings, with their places likewise.
+fn play_readings(
+    k: u64,
+    walk: usize,
+    st: State,
+    line: &[u8],
+    table: &mut [u32],
+    keys: &mut [u8],
+    lists: &mut [u8],
+    name: &mut [u8],
+) -> Played {
+    let mut places = [0i32; 16384];
+    readings_into(k, walk, st, line, table, keys, lists, name, &mut places)
+}
+
+fn readings_into(
+    k: u64,
+    walk: usize,
+    st: State,
+    line: &[u8],
+    table: &mut [u32],
+    keys: &mut [u8],
+    lists: &mut [u8],
+    name: &mut [u8],
+    places: &mut [i32; 16384],
+) -> Played {
+    bench_readings::play(k, walk, st, line, table, keys, lists, name, places)
+}
+
 // A command that leaves the state as it is: the walk that the last call by name told.
 fn play_same(
     k: u64,
@@ -77,13 +178,12 @@ fn play_same(
     lists: &mut [u8],
     name: &mut [u8],
     output: &mut [u8],
-    numbers: &mut [u32],
 ) -> usize {
     if k / 10 == 2 {
         return bench_read::play(k, walk, st, line, table, keys, lists, name, output);
     }
     if k / 10 == 8 {
-        return bench_pieces::play(k, walk, st, line, table, keys, lists, name, output, numbers);
+        return play_pieces(k, walk, st, line, table, keys, lists, name, output);
     }
     play_other(k, st, line, table, keys, lists, name, output);
     walk
@@ -100,8 +200,6 @@ fn play(
     lists: &mut [u8],
     name: &mut [u8],
     output: &mut [u8],
-    places: &mut [i32],
-    numbers: &mut [u32],
 ) -> Played {
     if k / 10 == 1 {
         return bench_write::play(k, walk, st, line, table, keys, lists, name, output);
@@ -111,9 +209,9 @@ fn play(
         return Played { st: set, walk };
     }
     if k / 10 == 7 {
-        return bench_readings::play(k, walk, st, line, table, keys, lists, name, places);
+        return play_readings(k, walk, st, line, table, keys, lists, name);
     }
-    let told = play_same(k, walk, st, line, table, keys, lists, name, output, numbers);
+    let told = play_same(k, walk, st, line, table, keys, lists, name, output);
     Played { st, walk: told }
 }
 
@@ -125,7 +223,7 @@ fn with_played(b: Bench, played: Played) -> Bench {
     next
 }
 
-// A command on what is lent of the memory.
+// A command on what is lent of a store's memory.
 fn play_lent(
     b: Bench,
     k: u64,
@@ -135,8 +233,6 @@ fn play_lent(
     lists: &mut [u8],
     name: &mut [u8],
     output: &mut [u8],
-    places: &mut [i32],
-    numbers: &mut [u32],
 ) -> Bench {
     let st = b.st;
     let walk = b.walk;
@@ -153,21 +249,171 @@ fn play_lent(
         &mut lists[0..list_bytes],
         name,
         output,
-        places,
-        numbers,
     );
     with_played(b, next)
 }
 
+// A command on one store.
+fn play_store(
+    b: Bench,
+    is_second: bool,
+    k: u64,
+    line: &[u8],
+    table: &mut [u32],
+    keys: &mut [u8],
+    lists: &mut [u8],
+    name: &mut [u8],
+    output: &mut [u8],
+) -> Bench {
+    if k == 1 {
+        return lend(b, is_second, line, table, keys, lists);
+    }
+    if k == 3 {
+        say::number(b"walk ", b.walk as u64);
+        return b;
+    }
+    play_lent(b, k, line, table, keys, lists, name, output)
+}
+
+fn with_walk(b: Bench, walk: usize) -> Bench {
+    let mut next = b;
+    next.walk = walk;
+    next
+}
+
+// What a line left of the first store, and of the second; the walk it told is both stores'.
+fn with_one(b: Both, one: Bench) -> Both {
+    let two = with_walk(b.two, one.walk);
+    let mut next = b;
+    next.one = one;
+    next.two = two;
+    next
+}
+
+fn with_two(b: Both, two: Bench) -> Both {
+    let one = with_walk(b.one, two.walk);
+    let mut next = b;
+    next.one = one;
+    next.two = two;
+    next
+}
+
+// `on STORE`: which store the lines behind it talk to.
+fn on(b: Both, line: &[u8]) -> Both {
+    let n = words::number_at(line, 1);
+    if n.fault != 0 {
+        say::fault(n.fault);
+        return b;
+    }
+    if (n.value == 0) | (2 < n.value) {
+        say::line(b"? no such store: 1 or 2");
+        return b;
+    }
+    say::number(b"on ", n.value);
+    let mut next = b;
+    next.is_second = n.value == 2;
+    next
+}
+
+// `join ROOM`: the second store's lent areas are joined onto the first's.
+fn join(
+    b: Both,
+    line: &[u8],
+    table: &mut [u32],
+    keys: &mut [u8],
+    lists: &mut [u8],
+    table2: &[u32],
+    keys2: &[u8],
+    lists2: &[u8],
+    output: &mut [u8],
+) -> Both {
+    let one = b.one;
+    let two = b.two;
+    let st = one.st;
+    let st2 = two.st;
+    let words = text::least(one.words, table.len());
+    let key_bytes = text::least(one.key_bytes, keys.len());
+    let list_bytes = text::least(one.list_bytes, lists.len());
+    let words2 = text::least(two.words, table2.len());
+    let key_bytes2 = text::least(two.key_bytes, keys2.len());
+    let list_bytes2 = text::least(two.list_bytes, lists2.len());
+    let next = bench_join::join(
+        line,
+        st,
+        &mut table[0..words],
+        &mut keys[0..key_bytes],
+        &mut lists[0..list_bytes],
+        st2,
+        &table2[0..words2],
+        &keys2[0..key_bytes2],
+        &lists2[0..list_bytes2],
+        output,
+    );
+    let walk = one.walk;
+    with_one(b, with_played(one, Played { st: next, walk }))
+}
+
+// A command on the first store, and on the second.
+fn play_one(
+    b: Both,
+    k: u64,
+    line: &[u8],
+    table: &mut [u32],
+    keys: &mut [u8],
+    lists: &mut [u8],
+    name: &mut [u8],
+    output: &mut [u8],
+) -> Both {
+    let one = b.one;
+    let next = play_store(one, false, k, line, table, keys, lists, name, output);
+    with_one(b, next)
+}
+
+fn play_two(
+    b: Both,
+    k: u64,
+    line: &[u8],
+    table: &mut [u32],
+    keys: &mut [u8],
+    lists: &mut [u8],
+    name: &mut [u8],
+    output: &mut [u8],
+) -> Both {
+    let two = b.two;
+    let next = play_store(two, true, k, line, table, keys, lists, name, output);
+    with_two(b, next)
+}
+
+// A command on the store that is talked to.
+fn play_on(
+    b: Both,
+    k: u64,
+    line: &[u8],
+    table: &mut [u32],
+    keys: &mut [u8],
+    lists: &mut [u8],
+    table2: &mut [u32],
+    keys2: &mut [u8],
+    lists2: &mut [u8],
+    name: &mut [u8],
+    output: &mut [u8],
+) -> Both {
+    let is_second = b.is_second;
+    if is_second {
+        return play_two(b, k, line, table2, keys2, lists2, name, output);
+    }
+    play_one(b, k, line, table, keys, lists, name, output)
+}
+
 // A command on the flat store.
 fn play_flat(
-    b: Bench,
+    b: Both,
     k: u64,
     line: &[u8],
     name: &mut [u8],
     output: &mut [u8],
     flat: &mut [u8],
-) -> Bench {
+) -> Both {
     let f = b.flat;
     let after = bench_flat::play(k, f, line, flat, name, output);
     let mut next = b;
@@ -177,44 +423,45 @@ fn play_flat(
 
 // A line of any kind.
 fn play_line(
-    b: Bench,
+    b: Both,
     line: &[u8],
     is_long: bool,
     table: &mut [u32],
     keys: &mut [u8],
     lists: &mut [u8],
+    table2: &mut [u32],
+    keys2: &mut [u8],
+    lists2: &mut [u8],
     name: &mut [u8],
     output: &mut [u8],
-    places: &mut [i32],
-    numbers: &mut [u32],
     flat: &mut [u8],
-) -> Bench {
+) -> Both {
     let k = commands::number_of(line, is_long);
     if k == 0 {
         commands::say_fault(line, is_long);
         return b;
     }
-    if k == 1 {
-        return lend(b, line, table, keys, lists);
-    }
-    if k == 3 {
-        say::number(b"walk ", b.walk as u64);
-        return b;
-    }
     if k / 10 == 10 {
         return play_flat(b, k, line, name, output, flat);
     }
-    play_lent(
+    if k == 110 {
+        return on(b, line);
+    }
+    if k == 111 {
+        return join(b, line, table, keys, lists, table2, keys2, lists2, output);
+    }
+    play_on(
         b,
         k,
         line,
         table,
         keys,
         lists,
+        table2,
+        keys2,
+        lists2,
         name,
         output,
-        places,
-        numbers,
     )
 }
 
@@ -225,27 +472,29 @@ fn play_input(
     table: &mut [u32],
     keys: &mut [u8],
     lists: &mut [u8],
+    table2: &mut [u32],
+    keys2: &mut [u8],
+    lists2: &mut [u8],
     name: &mut [u8],
     output: &mut [u8],
-    places: &mut [i32],
-    numbers: &mut [u32],
     flat: &mut [u8],
 ) {
-    let mut bench = fresh();
+    let mut both = fresh_both();
     let mut lines = lines::all();
     while 0 < lines.left {
         lines = lines::next(lines, chunk, line);
-        bench = play_line(
-            bench,
+        both = play_line(
+            both,
             lines::held(lines, line),
             lines.long,
             table,
             keys,
             lists,
+            table2,
+            keys2,
+            lists2,
             name,
             output,
-            places,
-            numbers,
             flat,
         );
     }
@@ -256,10 +505,11 @@ pub fn run(
     table: &mut [u32; 131072],
     keys: &mut [u8; 2097152],
     lists: &mut [u8; 3145728],
+    table2: &mut [u32; 4096],
+    keys2: &mut [u8; 196608],
+    lists2: &mut [u8; 327680],
     name: &mut [u8; 262144],
     output: &mut [u8; 1048576],
-    places: &mut [i32; 16384],
-    numbers: &mut [u32; 16384],
     flat: &mut [u8; 196608],
 ) {
     let mut chunk = io::large_buffer();
@@ -270,10 +520,11 @@ pub fn run(
         table,
         keys,
         lists,
+        table2,
+        keys2,
+        lists2,
         name,
         output,
-        places,
-        numbers,
         flat,
     );
 }

@@ -7,26 +7,26 @@ use Rattle.testbench.proofs.play.play_input.Statement.{statement}
 use Rattle.testbench.proofs.play.play_input.Tie as tie
 
 abbrev Inv-loop : tie.InvT-loop
-Inv-loop chunk₀ line₀ table₀ keys₀ lists₀ name₀ output₀ places₀ numbers₀ flat₀ _ _ chunk line table keys lists name
-    output places numbers flat _ _ =
+Inv-loop chunk₀ line₀ table₀ keys₀ lists₀ table2₀ keys2₀ lists2₀ name₀ output₀ flat₀ _ _ chunk line table keys lists
+    table2 keys2 lists2 name output flat _ _ =
     (length chunk ≡ length chunk₀) × ((length line ≡ length line₀) × ((length table ≡ length table₀)
-    × ((length keys ≡ length keys₀) × ((length lists ≡ length lists₀) × ((length name ≡ length name₀)
-    × ((length output ≡ length output₀) × ((length places ≡ length places₀) × ((length numbers ≡ length numbers₀)
-    × (length flat ≡ length flat₀)))))))))
+    × ((length keys ≡ length keys₀) × ((length lists ≡ length lists₀) × ((length table2 ≡ length table2₀)
+    × ((length keys2 ≡ length keys2₀) × ((length lists2 ≡ length lists2₀) × ((length name ≡ length name₀)
+    × ((length output ≡ length output₀) × (length flat ≡ length flat₀))))))))))
 
 abbrev μ-loop : tie.MeasureT-loop
-μ-loop _ _ _ _ _ _ _ _ _ _ _ _ _ _ _ _ _ _ _ _ _ _ _ lines = lines .left
+μ-loop _ _ _ _ _ _ _ _ _ _ _ _ _ _ _ _ _ _ _ _ _ _ _ _ _ lines = lines .left
 
 -- from the end of a turn back to its two calls, and to its test
-abbrev played : tie.After-slice-known18 Inv-loop μ-loop → tie.After-play-line Inv-loop μ-loop
+abbrev played : tie.After-slice-known22 Inv-loop μ-loop → tie.After-play-line Inv-loop μ-loop
 played c =
     c .before .before .before .before .before .before .before .before .before .before .before .before .before .before
-    .before
+    .before .before .before .before
 
 abbrev heard : tie.After-play-line Inv-loop μ-loop → tie.After-next Inv-loop μ-loop
 heard c =
     c .before .before .before .before .before .before .before .before .before .before .before .before .before .before
-    .before
+    .before .before
 
 abbrev begun : tie.After-next Inv-loop μ-loop → tie.Then1 Inv-loop μ-loop
 begun c = c .before .before .before
@@ -54,6 +54,7 @@ play-input-spec =
     (λ c _. search needs)
     loop-less
     loop-again
+    (λ c. search needs)
     (λ c. search needs)
     (λ c. search needs)
     (λ c. search needs)
