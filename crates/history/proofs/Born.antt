@@ -29,7 +29,7 @@ module _ (capacity seed size : ℕ) (table keys lists : List ℕ) where
   abbrev l : ℕ
   l = roundedDown capacity
 
-  abbrev start : World
+  abbrev pub start : World
   start = record { state = freshState seed size (length table) (length keys) (length lists) l; memory = lent (cleared 0 l table) keys lists }
 
   start-whole : creatable capacity size (length table) (length keys) (length lists) ≡ true → checked (start .state) (start .memory) ≡ true
@@ -62,7 +62,7 @@ module _ (capacity seed size : ℕ) (table keys lists : List ℕ) where
   never t t′ s e = let q : Barred 1 ≡ Made s = ap (λ (o : Out). o .answer) e in let z : _≡_ {A = ℕ} 0 1 = cc in omega arith
 
   -- what is born is the start
-  born-start : (w : World) → Born capacity seed size table keys lists w → (creatable capacity size (length table) (length keys) (length lists) ≡ true) × (start ≡ w)
+  pub born-start : (w : World) → Born capacity seed size table keys lists w → (creatable capacity size (length table) (length keys) (length lists) ≡ true) × (start ≡ w)
   born-start w B = go (creatable capacity size (length table) (length keys) (length lists)) refl
     where
       go : (b : Bool) → creatable capacity size (length table) (length keys) (length lists) ≡ b

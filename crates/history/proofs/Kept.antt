@@ -1,7 +1,7 @@
 -- An accepted append leaves a sound store, to a standing name and to a new one: one lane has its bytes more, and every other is what it was.
 -- Assumes nothing.
 use Prim.Native.Nat.{ℕ, suc, _+_, _-_, _≤_, _<_}
-use mathlib.Core.Path.{_≡_, refl, sym, _∙_, subst}
+use mathlib.Core.Path.{_≡_, refl, sym, ap, _∙_, subst}
 use mathlib.Core.Logic.{_⊎_, inl, inr, ⊎-elim}
 use mathlib.Core.Bool.{Bool, true, false, cond}
 use mathlib.Core.Option.{some}
@@ -25,7 +25,7 @@ use Rattle.shared_arena_hashmap.specs.Probe.{valuePlace}
 use Rattle.shared_arena_hashmap.specs.Grow.{entered}
 use Rattle.expull.specs.declared.Header.{Header}
 use Rattle.expull.specs.Header.{fresh, headerBytes}
-use Rattle.expull.specs.Append.{Writing, writing, appended}
+use Rattle.expull.specs.Append.{Writing, writing, appended, planOf}
 use Rattle.expull.proofs.Laws.Header.{header-length}
 use Rattle.store.specs.declared.State.{State}
 use Rattle.store.specs.declared.Name.the-variants.{Proper}
@@ -35,10 +35,11 @@ use Rattle.store.specs.Look.{lent, checked}
 use Rattle.store.specs.Append.{isCrowded, grows, grownState, stateGrown, tableGrown, movedState, recordBytes}
 use Rattle.store.proofs.Guard.{kind-length, kind-short}
 use Rattle.store.proofs.Cases.{table-stays}
-use Rattle.history_lanes.specs.Lane.{content, TipClear, usedEnd, Lane, After}
+use Rattle.history_lanes.specs.Lane.{content, TipClear, usedEnd, Lane, After, arenaOf}
 use Rattle.history_lanes.proofs.Blocks.{apart-within}
 use Rattle.history_lanes.proofs.Moved.{lane-moved}
 use Rattle.history_lanes.proofs.Append.{lane-fresh, lane-appended}
+use Rattle.history_lanes.proofs.Plan.{lane-plan}
 use Rattle.history_names.specs.Table.{Names, Member, Table, Outside, OneBucket}
 use Rattle.history_names.proofs.Lookup.{decide-name}
 use Rattle.history_names.proofs.Enter.{enters}
@@ -87,6 +88,9 @@ pub record Leaves (w : World) (G : Ghosts) (name bytes : List ℕ) (w′ : World
   pub list-standing : Stands G name → (header ≡ G .header name) × (blocks ≡ G .blocks name)
   pub list-new : (Stands G name → ⊥) → header ≡ fresh
   pub list-clear : (j : List ℕ) → (j ≡ name → ⊥) → Stands G j → TipClear blocks (G .blocks j)
+  -- the list pages' state afterwards is the dry run's
+  pub list-plan : planOf (length (w .memory .lists)) (w .state .«list_arena») header (length bytes)
+      ≡ some (w′ .state .«list_arena»)
   -- the key pages
   pub place-kept : Stands G name → G′ .place name ≡ G .place name
   pub keys-used : Stands G name → w′ .state .«key_arena» ≡ w .state .«key_arena»
@@ -98,6 +102,7 @@ pub record Leaves (w : World) (G : Ghosts) (name bytes : List ℕ) (w′ : World
   pub keys-standing : Stands G name → (q n : ℕ) → Apart (valuePlace (w .memory .keys) (G .place name)) valueSize q n → Kept (w .memory .keys) (w′ .memory .keys) q n
   pub keys-new : (Stands G name → ⊥) → (q n : ℕ) → Apart (G′ .place name) (length name + recordExtra) q n → Kept (w .memory .keys) (w′ .memory .keys) q n
   -- the table
+  pub table-long : w′ .state .buckets ≡ stateGrown (w .state) .buckets
   pub table-standing : Stands G name → grows (w .state) ≡ false → w′ .memory .table ≡ w .memory .table
   pub table-new : (Stands G name → ⊥)
       → OneBucket (firstOf (stateGrown (w .state))) (stateGrown (w .state) .buckets) (G′ .place name)
@@ -238,6 +243,7 @@ module _ {w : World} {G : Ghosts} (S : Sound w G) where
       list-standing = λ m. (refl, refl);
       list-new = λ f. absurd (f M);
       list-clear = λ j f m. apart-tip (G .blocks name) (G .blocks j) (S .lanes-apart name j M m (λ q. f (sym q)));
+      list-plan = lane-plan (w .memory .lists) (w .state .«list_arena») (G .header name) bytes ∙ ap arenaOf e;
       place-kept = λ m. refl;
       keys-standing = λ m q n d.
           read-apart q n (valuePlace (w .memory .keys) (G .place name)) (headerBytes (v .header)) (w .memory .keys) (rw header-length d);
@@ -245,6 +251,7 @@ module _ {w : World} {G : Ghosts} (S : Sound w G) where
       keys-used = λ m. refl;
       keys-room = λ f. absurd (f M);
       keys-above = λ f. absurd (f M);
+      table-long = refl;
       table-standing = λ m b. table-stays (w .state) (w .memory .table) b;
       table-new = λ f. absurd (f M);
       table-grown = grown-words (w .state) (w .memory .table);
@@ -363,6 +370,7 @@ module _ {w : World} {G : Ghosts} (S : Sound w G) where
       list-standing = λ m. absurd (M m);
       list-new = λ f. refl;
       list-clear = λ j f m. tt;
+      list-plan = lane-plan (w .memory .lists) (w .state .«list_arena») fresh bytes ∙ ap arenaOf e;
       place-kept = λ m. absurd (M m);
       keys-standing = λ m q n d. absurd (M m);
       keys-new = λ f q n d.
@@ -371,6 +379,7 @@ module _ {w : World} {G : Ghosts} (S : Sound w G) where
       keys-used = λ m. absurd (M m);
       keys-room = λ f. rw (updated-same (G .place) name at name refl) r;
       keys-above = λ f. rw (updated-same (G .place) name at name refl) (room .above, room .end);
+      table-long = refl;
       table-standing = λ m b. absurd (M m);
       table-new = λ f. rw (updated-same (G .place) name at name refl) one;
       table-grown = grown-entered-words (w .state) (w .memory .table) at (murmurHash2 (w .state .seed) name);

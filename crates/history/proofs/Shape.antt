@@ -23,10 +23,10 @@ use Rattle.history.specs.Due.{oneMore, shapeOf, dueBlocks, dueList}
 use Rattle.history.specs.Promises.{blocksFor}
 
 -- n bytes fill k blocks up to r bytes of the last, in which at least one byte stands
-record Fills (n k r : ℕ) : Type 0 where
-  all : n + r ≡ fullBytes k
-  none-left : k ≡ 0 → r ≡ 0
-  begun : (j : ℕ) → k ≡ suc j → r < blockSize (j + 3)
+pub record Fills (n k r : ℕ) : Type 0 where
+  pub all : n + r ≡ fullBytes k
+  pub none-left : k ≡ 0 → r ≡ 0
+  pub begun : (j : ℕ) → k ≡ suc j → r < blockSize (j + 3)
 
 full-none : fullBytes 0 ≡ 0
 unfolding fullBytes
@@ -84,7 +84,7 @@ more-fills n h l F = go (eqb (h .remaining) 0) refl
     go true e = rw e (omega arith, grows (eqb-true (h .remaining) 0 e))
     go false e = rw e (l, stays (eqb-false (h .remaining) 0 e))
 
-shape-fills : (n : ℕ) → (freshNumber ≤ shapeOf n .number) × Fills n (blockCount (shapeOf n)) (shapeOf n .remaining)
+pub shape-fills : (n : ℕ) → (freshNumber ≤ shapeOf n .number) × Fills n (blockCount (shapeOf n)) (shapeOf n .remaining)
 unfolding shapeOf fullBytes
 shape-fills zero = (omega arith, record { all = refl; none-left = λ z. refl; begun = λ j z. absurd (omega arith) })
 shape-fills (suc n) = more-fills n (shapeOf n) (shape-fills n .0) (shape-fills n .1)

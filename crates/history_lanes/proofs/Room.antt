@@ -18,7 +18,7 @@ size-double : (b : ℕ) → blockSize (b + 1) ≤ 2 * blockSize b
 unfolding blockSize
 size-double b = le-trans (pow-mono {i = min (b + 1) sizeTop} {j = suc (min b sizeTop)} (omega arith)) (omega arith)
 
-size-sum : (k : ℕ) → blockSize (k + 3) ≤ fullBytes k + 8
+pub size-sum : (k : ℕ) → blockSize (k + 3) ≤ fullBytes k + 8
 unfolding fullBytes blockSize
 size-sum zero = le-refl 8
 size-sum (suc k) =
