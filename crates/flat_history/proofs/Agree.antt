@@ -29,7 +29,7 @@ use Rattle.store.specs.Append.{isCrowded}
 use Rattle.store.proofs.Whole.{whole-facts}
 use Rattle.store.proofs.Guard.{kind-long, kind-nameless}
 use Rattle.store.specs.Said.{saidAnswer}
-use Rattle.history.specs.History.{World, Call, appends, play, Born, logOf, joined}
+use Rattle.history.specs.History.{World, Call, appends, play, Born, logOf, askedFor, joined}
 use Rattle.history.specs.Due.{shapeOf, dueBlocks, dueRecord, dueList, dueNew, dueBy, due}
 use Rattle.history.specs.Numbers.{numberOf}
 use Rattle.history.specs.Promises.{ReadsAs, ReadsBack, AnswersDue}
@@ -47,7 +47,7 @@ use Rattle.flat_store.proofs.Calls.{append-3, append-13, held-3, held-nameless}
 use Rattle.flat_store.proofs.Kept.{holds-inside}
 use Rattle.flat_store.proofs.Promises.{flat-demand-3}
 use Rattle.flat_history.specs.Alike.{standingOnly, byName, Alike, BothRefuse}
-use Rattle.flat_history.specs.Agreement.{asked, SameRecord, WidePages, Agreement}
+use Rattle.flat_history.specs.Agreement.{SameRecord, WidePages, Agreement}
 use Rattle.flat_history.specs.Cases.{start, born, calls, unrefused-case}
 
 -- ---- a name, by what is held of it
@@ -291,11 +291,11 @@ module _ (capacity seed size : ℕ) (table keys lists : List ℕ) (w : World)
   pub agreement : Agreement w lent
   agreement = record {
     same-log = same-record;
-    unrefused = λ wide calls s t. same-record wide calls (asked calls) (s ∙ sym t);
+    unrefused = λ wide calls s t. same-record wide calls (askedFor calls) (s ∙ sym t);
   }
 
 -- on the history of specs/Cases.antt
-pub worked : SameRecord start calls (replicate 25 7) (asked calls)
+pub worked : SameRecord start calls (replicate 25 7) (askedFor calls)
 worked =
     agreement 1 0 131072 (replicate 18 7) (replicate 64 7) (replicate 64 7) start born (replicate 25 7) .unrefused
     (unrefused-case .0) calls (unrefused-case .1 .0) (unrefused-case .1 .1)

@@ -3,40 +3,23 @@
 -- buffer.
 use Prim.Native.Nat.{ℕ, _<_}
 use mathlib.Core.Path.{_≡_}
-use mathlib.Core.List.{List, [], _∷_}
+use mathlib.Core.List.{List, []}
 use lib.ListN.{length}
 use Rattle.limits.specs.Limits.{nameLimit}
-use Rattle.entries.specs.Log.{Entry, entry}
+use Rattle.entries.specs.Log.{Entry}
 use Rattle.store.specs.declared.Lookup.the-variants.{Failed}
 use Rattle.store.specs.Look.{lookupOf}
-use Rattle.history.specs.History.{World, Call, appends, looksUp, asksLength, reads, findsBlock, showsBlock, listsFrom}
-use Rattle.history.specs.History.{countsKeys, play, logOf}
+use Rattle.history.specs.History.{World, Call, play, logOf, askedFor}
 use Rattle.history.specs.Promises.{ReadsAbsent}
 use Rattle.flat_store.specs.Calls.{absent, refuses, heldOf}
 use Rattle.flat_store.specs.History.{Flat, flat, play as flatPlay, logOf as flatLog, Holds}
 use Rattle.flat_history.specs.Alike.{Alike, BothRefuse}
 
--- ---- what was asked
-
--- RULES AH9. The appends that a call asks for
-abbrev pub askedBy : Call → List Entry → List Entry
-askedBy (appends name bytes) rest = entry name bytes ∷ rest
-askedBy (looksUp name) rest = rest
-askedBy (asksLength name) rest = rest
-askedBy (reads name output) rest = rest
-askedBy (findsBlock name i) rest = rest
-askedBy (showsBlock at n) rest = rest
-askedBy (listsFrom i) rest = rest
-askedBy countsKeys rest = rest
-
--- RULES AH9. The appends of a history, whatever was answered
-unfoldable pub asked : List Call → List Entry
-asked [] = []
-asked (c ∷ calls) = askedBy c (asked calls)
+-- ---- where nothing was refused
 
 -- RULES AH9. No append was refused: all that was asked is in the log
 abbrev pub Unrefused : List Call → World → Type 0
-Unrefused calls w = logOf calls w ≡ asked calls
+Unrefused calls w = logOf calls w ≡ askedFor calls
 
 -- RULES AH9. And so of the flat store
 abbrev pub FlatUnrefused : List Entry → Flat → Type 0
@@ -73,5 +56,5 @@ pub record Agreement (w : World) (lent : List ℕ) : Type 0 where
   pub same-log : WidePages w → (calls : List Call) (tries : List Entry) → logOf calls w ≡ flatLog tries (flat lent 0)
       → SameRecord w calls lent tries
   -- "for histories in which neither store has refused": the same appends asked of both
-  pub unrefused : WidePages w → (calls : List Call) → Unrefused calls w → FlatUnrefused (asked calls) (flat lent 0)
-      → SameRecord w calls lent (asked calls)
+  pub unrefused : WidePages w → (calls : List Call) → Unrefused calls w → FlatUnrefused (askedFor calls) (flat lent 0)
+      → SameRecord w calls lent (askedFor calls)

@@ -7,10 +7,10 @@ use Rattle.shared_arena_hashmap.specs.Buckets.{cleared}
 use Rattle.store.specs.Create.{freshState, createOf}
 use Rattle.store.specs.Look.{lent}
 use Rattle.store.specs.Append.{appendOf}
-use Rattle.history.specs.History.{World, Born, Call, appends, looksUp, logOf}
+use Rattle.history.specs.History.{World, Born, Call, appends, looksUp, logOf, askedFor}
 use Rattle.flat_store.specs.Calls.{appendOf as flatAppendOf}
 use Rattle.flat_store.specs.History.{flat, logOf as flatLog}
-use Rattle.flat_history.specs.Agreement.{asked, Unrefused, FlatUnrefused, WidePages}
+use Rattle.flat_history.specs.Agreement.{Unrefused, FlatUnrefused, WidePages}
 
 -- RULES AH10. A store of one bucket, whose pages have 131,072 bytes, on memory that isn't clear
 abbrev pub start : World
@@ -30,6 +30,6 @@ calls =
     appends (65 ∷ []) (1 ∷ 2 ∷ 3 ∷ []) ∷ looksUp (66 ∷ []) ∷ appends (66 ∷ []) [] ∷ appends (65 ∷ []) (4 ∷ []) ∷ []
 
 -- RULES AH10. On that store, and on a flat buffer of 25 bytes, which they just fill
-pub unrefused-case : WidePages start × (Unrefused calls start × FlatUnrefused (asked calls) (flat (replicate 25 7) 0))
-unfolding asked logOf appendOf flatLog flatAppendOf cleared
+pub unrefused-case : WidePages start × (Unrefused calls start × FlatUnrefused (askedFor calls) (flat (replicate 25 7) 0))
+unfolding askedFor logOf appendOf flatLog flatAppendOf cleared
 unrefused-case = (lit< tt, (refl, refl))

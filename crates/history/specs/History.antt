@@ -96,6 +96,24 @@ unfoldable pub logOf : List Call → World → List Entry
 logOf [] w = []
 logOf (c ∷ calls) w = logged c w ++ logOf calls (after c w)
 
+-- ---- what was asked: the appends of a history, whatever was answered, in order
+
+-- RULES Y15. Of a call
+abbrev pub askedBy : Call → List Entry
+askedBy (appends name bytes) = entry name bytes ∷ []
+askedBy (looksUp name) = []
+askedBy (asksLength name) = []
+askedBy (reads name output) = []
+askedBy (findsBlock name i) = []
+askedBy (showsBlock at n) = []
+askedBy (listsFrom i) = []
+askedBy countsKeys = []
+
+-- RULES Y15.
+unfoldable pub askedFor : List Call → List Entry
+askedFor [] = []
+askedFor (c ∷ calls) = askedBy c ++ askedFor calls
+
 -- ---- what the log comes to for a name
 
 -- RULES Y2. The accepted appends to name j, joined in order; none where there was none

@@ -14,7 +14,7 @@ use Rattle.store.specs.declared.Appended.{Appended}
 use Rattle.store.specs.declared.Appended.the-variants.{Accepted, Declined}
 use Rattle.history_lanes.specs.Lane.{usedEnd}
 use Rattle.history.specs.History.{World, Call, appends, Born, appendIn, isAccepted, accepts, play, Entry, entry}
-use Rattle.history.specs.History.{logOf, joined, among, bytesIn}
+use Rattle.history.specs.History.{logOf, askedFor, joined, among, bytesIn}
 use Rattle.history.specs.History.{acceptedBytes}
 use Rattle.history.specs.Due.{due}
 use Rattle.history.specs.Promises.{listedNames}
@@ -22,7 +22,7 @@ use Rattle.history.specs.Numbers.{appendedNumber}
 use Rattle.history.proofs.Demand.{refusals-exact}
 use Rattle.lending.specs.Lending.{blockTail}
 use Rattle.shift_cost.specs.Shift.{sumOf, lengthIn, lanesWithBytes, blocksOfAll}
-use Rattle.shift_cost.specs.Promises.{askedFor, StaysWithin, LentFor}
+use Rattle.shift_cost.specs.Promises.{StaysWithin, LentFor}
 use Rattle.shift_cost.proofs.Spent.{bytes-more}
 use Rattle.shift_cost.proofs.Costs.{asked-more, within-less, shift-costs, never-refused}
 use Rattle.join.specs.Join.{broughtBy}

@@ -7,11 +7,11 @@ use mathlib.Core.Bool.{true}
 use mathlib.Core.List.{List, _++_, map}
 use lib.ListN.{length}
 use Rattle.history_lanes.specs.Lane.{usedEnd}
-use Rattle.history.specs.History.{World, Call, play, Entry, entry, logOf, joined, among, acceptedBytes}
+use Rattle.history.specs.History.{World, Call, play, Entry, entry, logOf, askedFor, joined, among, acceptedBytes}
 use Rattle.history.specs.Promises.{listedNames}
 use Rattle.lending.specs.Lending.{blockTail}
 use Rattle.shift_cost.specs.Shift.{sumOf, lengthIn, lanesWithBytes, blocksOfAll}
-use Rattle.shift_cost.specs.Promises.{ShiftCosts, askedFor, StaysWithin}
+use Rattle.shift_cost.specs.Promises.{ShiftCosts, StaysWithin}
 use Rattle.join.specs.Join.{broughtBy}
 use Rattle.join_history.specs.Promises.{firstAfter, joinNumber, bytesOr, crossed}
 

@@ -26,8 +26,8 @@ use Rattle.store.proofs.Guard.{kind-proper}
 use Rattle.store.proofs.Whole.{Whole, whole-facts, creatable-facts}
 use Rattle.history_names.specs.Listing.{times}
 use Rattle.history.specs.History.{World, Call, appends, looksUp, asksLength, reads, findsBlock, showsBlock}
-use Rattle.history.specs.History.{listsFrom, countsKeys, Born, accepts, play, Entry, entry, logged, logOf}
-use Rattle.history.specs.History.{joined, isJoined, among, withName, namesIn, acceptedNames}
+use Rattle.history.specs.History.{listsFrom, countsKeys, Born, accepts, play, Entry, entry, logged, logOf, askedBy}
+use Rattle.history.specs.History.{askedFor, joined, isJoined, among, withName, namesIn, acceptedNames}
 use Rattle.history.specs.Due.{shapeOf, dueBlocks, dueRecord, dueList, dueNew, dueBy, due}
 use Rattle.history.specs.Promises.{blocksFor, ReadsAs, listedNames}
 use Rattle.history.proofs.Log.{names-more}
@@ -37,7 +37,7 @@ use Rattle.history.proofs.Demand.{history, counts, names-exact, names-joined, r
 use Rattle.lending.specs.Lending.{blockTail, takenAtMost, keyBytesFor}
 use Rattle.shift_cost.specs.Shift.{sumOf, overLanes, lengthIn, takenIn, toldLength}
 use Rattle.shift_cost.specs.Shift.{bytesOfAll, takenOfAll}
-use Rattle.shift_cost.specs.Promises.{ShiftCosts, askedBy, askedFor, StaysWithin, LentFor, NeverRefused}
+use Rattle.shift_cost.specs.Promises.{ShiftCosts, StaysWithin, LentFor, NeverRefused}
 use Rattle.shift_cost.proofs.Calls.{log-one, by-calls}
 use Rattle.shift_cost.proofs.Pages.{Holds, never-crammed, room-answers}
 use Rattle.shift_cost.proofs.Sums.{sum-same, sum-ordered, name-more}

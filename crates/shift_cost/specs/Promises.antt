@@ -12,9 +12,8 @@ use Rattle.store.specs.State.{lentBuckets}
 use Rattle.store.specs.Create.{creatable}
 use Rattle.store.specs.Look.{lengthOf}
 use Rattle.history_lanes.specs.Lane.{usedEnd}
-use Rattle.history.specs.History.{World, Call, appends, looksUp, asksLength, reads, findsBlock, showsBlock}
-use Rattle.history.specs.History.{listsFrom, countsKeys, accepts, play, Entry, entry, logOf, among, namesIn, bytesIn}
-use Rattle.history.specs.History.{acceptedBytes}
+use Rattle.history.specs.History.{World, Call, accepts, play, Entry, entry, logOf, askedFor, among, namesIn}
+use Rattle.history.specs.History.{bytesIn, acceptedBytes}
 use Rattle.history.specs.Promises.{listedNames}
 use Rattle.lending.specs.declared.Lend.the-variants.{Areas}
 use Rattle.lending.specs.Lending.{blockTail, listBytesFor, keyBytesFor, bucketsFor, lendFor}
@@ -36,22 +35,6 @@ pub record ShiftCosts (w : World) (calls : List Call) : Type 0 where
       + blockTail * play calls w .state .«list_arena» .page
 
 -- ---- a shift that stays within what was lent for it
-
--- RULES AJ9. All appends that the calls ask for, accepted or not
-abbrev pub askedBy : Call → List Entry
-askedBy (appends name bytes) = entry name bytes ∷ []
-askedBy (looksUp name) = []
-askedBy (asksLength name) = []
-askedBy (reads name output) = []
-askedBy (findsBlock name i) = []
-askedBy (showsBlock at n) = []
-askedBy (listsFrom i) = []
-askedBy countsKeys = []
-
--- RULES AJ9.
-unfoldable pub askedFor : List Call → List Entry
-askedFor [] = []
-askedFor (c ∷ calls) = askedBy c ++ askedFor calls
 
 -- RULES AJ9. At most so many lanes, so many bytes in all, and names of 1 to so many bytes
 pub record StaysWithin (lanes bytes longest : ℕ) (asked : List Entry) : Type 0 where
