@@ -16,6 +16,12 @@ pub enum Lend {
     NoSuchPage,
 }
 
+// The most buckets of a table.
+const BUCKETS: u64 = limits::WORD_LIMIT as u64 / 2;
+
+// What of a page that is left behind is never used, at most: a byte less than the largest block with its link.
+const BLOCK_TAIL: u64 = 32771;
+
 fn least(a: u64, b: u64) -> u64
     ensures { λ r. ⌜ r ≡ min a b ⌝ }
 {
@@ -59,14 +65,14 @@ fn list_bytes_for(page: u64, lanes: u64, bytes: u64) -> u64
     requires { ⌜ (65536 ≤ page) × ((page ≤ 1048576) × ((lanes ≤ 4194304) × (bytes ≤ 4294967295))) ⌝ }
     ensures { λ r. ⌜ r ≡ listBytesFor page lanes bytes ⌝ }
 {
-    at_least_one(with_tails(page, 32771, taken_at_most(lanes, bytes)))
+    at_least_one(with_tails(page, BLOCK_TAIL, taken_at_most(lanes, bytes)))
 }
 
 fn key_bytes_for(page: u64, lanes: u64, longest: u64) -> u64
     requires { ⌜ (65536 ≤ page) × ((page ≤ 1048576) × ((lanes ≤ 4194304) × (longest ≤ nameLimitFor page))) ⌝ }
     ensures { λ r. ⌜ r ≡ keyBytesFor page lanes longest ⌝ }
 {
-    let record = longest + 18;
+    let record = longest + limits::RECORD_EXTRA as u64;
     let on_page = page / record;
     let before = lanes - least(lanes, 1);
     before / on_page * page + (before % on_page + 1) * record
@@ -89,16 +95,19 @@ pub fn lend_for(lanes: u64, bytes: u64, longest: u64, page: u64) -> Lend
     if !memory_arena::is_page_size(page as usize) {
         return Lend::NoSuchPage;
     }
-    let most = 4294967296 - page;
-    let name_most = least(65535, page - 18);
-    let are_few = (lanes <= 4194304) & ((bytes <= most) & (longest <= name_most));
+    let most = limits::ADDRESSES as u64 - page;
+    let name_most = least(
+        limits::NAME_LIMIT as u64,
+        page - limits::RECORD_EXTRA as u64,
+    );
+    let are_few = (lanes <= BUCKETS) & ((bytes <= most) & (longest <= name_most));
     if !are_few {
         return Lend::TooMuch;
     }
     let capacity = capacity_for(lanes);
     let keys = key_bytes_for(page, lanes, longest);
     let lists = list_bytes_for(page, lanes, bytes);
-    let is_lent = (capacity <= 4194304) & ((keys <= most) & (lists <= most));
+    let is_lent = (capacity <= BUCKETS) & ((keys <= most) & (lists <= most));
     if !is_lent {
         return Lend::TooMuch;
     }
