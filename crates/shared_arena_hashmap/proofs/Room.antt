@@ -283,3 +283,45 @@ pub lookup-empty : (t keys : List ℕ) (a : Arena) (first l hash : ℕ) (name : 
 unfolding lookup AnEmpty
 lookup-empty t keys a first l hash name h e =
     probe-empty t keys a first l hash name l (startOf l hash) 0 (start-below l hash h) e
+
+-- ---- that bucket is the first empty one of the probe, and how many buckets were looked at tells its place
+
+seen-other : (t keys : List ℕ) (a : Arena) (b hash : ℕ) (name : List ℕ) → seenAt t keys a b hash name ≡ Other
+    → emptyAt t b ≡ true → ⊥
+unfolding seenAt
+seen-other t keys a b hash name e f =
+    let n : Nothing ≡ Other = rw f at e in
+    let z : _≡_ {A = ℕ} 0 1 = cc in omega arith
+
+probe-free : (t keys : List ℕ) (a : Arena) (first l hash : ℕ) (name : List ℕ) (n i k : ℕ) → i < l
+    → i ≡ (hash + (k + 1)) % l
+    → probe t keys a first l hash name n i k .met ≡ Empty
+    → freeFrom t first l n i ≡ (hash + probe t keys a first l hash name n i k .looked) % l
+unfolding probe freeFrom
+probe-free t keys a first l hash name zero i k h m e = let z : _≡_ {A = ℕ} 0 1 = cc in absurd (omega arith)
+probe-free t keys a first l hash name (suc n) i k h m e =
+    go (seenAt t keys a (first + i) hash name) refl (emptyAt t (first + i)) refl e
+    (probe-free t keys a first l hash name n (nextBucket l i) (k + 1) (next-below l i h)
+    (next-mod l (hash + (k + 1)) i h m ∙ ap (λ (y : ℕ). y % l) (omega arith)))
+  where
+    rest : Walk
+    rest = probe t keys a first l hash name n (nextBucket l i) (k + 1)
+
+    go : (s : Seen) → seenAt t keys a (first + i) hash name ≡ s → (b : Bool) → emptyAt t (first + i) ≡ b
+        → onSeen s (k + 1) rest .met ≡ Empty
+        → (rest .met ≡ Empty → freeFrom t first l n (nextBucket l i) ≡ (hash + rest .looked) % l)
+        → cond b i (freeFrom t first l n (nextBucket l i)) ≡ (hash + onSeen s (k + 1) rest .looked) % l
+    go Nothing p true q e f = m
+    go Nothing p false q e f =
+        absurd (false≢true (sym q ∙ seen-nothing t keys a (first + i) hash name p))
+    go (Same at) p b q e f = let z : _≡_ {A = ℕ} 0 1 = cc in absurd (omega arith)
+    go Broken p b q e f = let z : _≡_ {A = ℕ} 0 1 = cc in absurd (omega arith)
+    go Other p true q e f = absurd (seen-other t keys a (first + i) hash name p q)
+    go Other p false q e f = f e
+
+pub lookup-free : (t keys : List ℕ) (a : Arena) (first l hash : ℕ) (name : List ℕ) → 0 < l
+    → lookup t keys a first l hash name .met ≡ Empty
+    → freeOf t first l hash ≡ (hash + lookup t keys a first l hash name .looked) % l
+unfolding lookup freeOf
+lookup-free t keys a first l hash name h e =
+    probe-free t keys a first l hash name l (startOf l hash) 0 (start-below l hash h) refl e

@@ -1,7 +1,9 @@
 // Entering a record, and growth.
 ghost use mathlib.Core.Path.{_≡_};
-ghost use Prim.Native.Nat.{_+_, _*_, _≤_, _<_};
+ghost use mathlib.Core.Bool.{true};
+ghost use Prim.Native.Nat.{_+_, _*_, _%_, _≤_, _<_};
 ghost use lib.ListN.{length};
+ghost use Rattle.shared_arena_hashmap.specs.Power.{powerOfTwo};
 ghost use Rattle.shared_arena_hashmap.specs.Buckets.{withBucket, cleared};
 ghost use Rattle.shared_arena_hashmap.specs.Grow.{freeOf, entered, reentered, allReentered, grown};
 
@@ -56,6 +58,16 @@ pub fn enter(table: &mut [u32], first: usize, l: usize, address: u32, hash: u32)
     if i == l {
         return;
     }
+    set_bucket(table, first + i, address, hash);
+}
+
+// Enters a record in the empty bucket that a lookup of its hash met, the k-th that it looked at: nothing is probed again.
+pub fn enter_met(table: &mut [u32], first: usize, l: usize, address: u32, hash: u32, k: usize)
+    requires { ⌜ (powerOfTwo l ≡ true) × (2 * (first + l) ≤ length (now table)) ⌝ }
+    requires { ⌜ (k ≤ l) × (freeOf (now table) first l hash ≡ (hash + k) % l) ⌝ }
+    ensures { λ _. ⌜ now (table .exit) ≡ entered first l address hash (now (table .entry)) ⌝ }
+{
+    let i = ((hash as usize) + k) & (l - 1);
     set_bucket(table, first + i, address, hash);
 }
 
