@@ -1,9 +1,9 @@
 -- RULES V10 to V14. Document 01: an append. "Whether a key stands is decided in the table before growth." Everything
 -- is planned before anything is written: each refusal, the lowest that applies, leaves the lent memory and the state
 -- as they were.
-use Prim.Native.Nat.{ℕ, _+_}
+use Prim.Native.Nat.{ℕ, _+_, _%_, _≤_}
 use mathlib.Core.Path.{_≡_}
-use mathlib.Core.Bool.{Bool, true, cond, _&&_, not}
+use mathlib.Core.Bool.{Bool, true, false, cond, _&&_, not}
 use mathlib.Core.Option.{Option, none, some}
 use mathlib.Core.List.{List, _++_}
 use lib.Dec.{leb}
@@ -18,16 +18,17 @@ use Rattle.memory_arena.specs.declared.Allocated.the-variants.{At, NoRoom, Refu
 use Rattle.memory_arena.specs.Pages.{roomFor}
 use Rattle.shared_arena_hashmap.specs.declared.Met.{Met}
 use Rattle.shared_arena_hashmap.specs.declared.Met.the-variants.{Empty, Standing, Damaged, Lap}
-use Rattle.shared_arena_hashmap.specs.Power.{grownLength}
+use Rattle.shared_arena_hashmap.specs.Power.{powerOfTwo, grownLength}
 use Rattle.shared_arena_hashmap.specs.Buckets.{saturated}
-use Rattle.shared_arena_hashmap.specs.Probe.{valuePlace}
-use Rattle.shared_arena_hashmap.specs.Grow.{entered, grown}
+use Rattle.shared_arena_hashmap.specs.Probe.{valuePlace, walked}
+use Rattle.shared_arena_hashmap.specs.Grow.{freeOf, entered, grown}
 use Rattle.expull.specs.declared.Header.{Header}
 use Rattle.expull.specs.Header.{fresh, headerBytes, soundHeader}
 use Rattle.expull.specs.Append.{Writing, writing, appended, planOf, isSome, goodTail}
 use Rattle.store.specs.declared.State.{State}
 use Rattle.store.specs.declared.Appended.{Appended}
 use Rattle.store.specs.declared.Appended.the-variants.{Accepted, Declined}
+use Rattle.store.specs.declared.Name.the-variants.{Proper}
 use Rattle.store.specs.State.{wholeState, lentBuckets, firstOf}
 use Rattle.store.specs.Name.{nameKind, byKind}
 use Rattle.store.specs.Look.{Lent, lent, checked, walkOf, headerOf, headerSound}
@@ -95,6 +96,26 @@ pub record Planned (st : State) (m : Lent) (h : Header) (bytes : List ℕ) : Typ
   pub sound : soundHeader h 0 ≡ true
   pub tail : goodTail (st .«list_arena») h ≡ true
   pub room : isSome (planOf (length (m .lists)) (st .«list_arena») h (length bytes)) ≡ true
+
+-- ---- what a lookup hands on to the append behind it
+
+-- RULES N4, V1. The state is whole, the guard lets the name through, and its hash and its walk are these.
+pub record Looked (st : State) (m : Lent) (name : List ℕ) (hash : ℕ) (met : Met) (looked : ℕ) : Type 0 where
+  pub whole : checked st m ≡ true
+  pub proper : nameKind st (length name) ≡ Proper
+  pub hashed : hash ≡ murmurHash2 (st .seed) name
+  pub walk : walkOf st m name ≡ walked met looked
+
+-- RULES N6, Q1. The first empty bucket of a hash's probe is the last of the buckets looked at.
+abbrev pub LastEmpty : State → List ℕ → ℕ → ℕ → Type 0
+LastEmpty st t hash looked =
+    (powerOfTwo (st .buckets) ≡ true)
+    × ((looked ≤ st .buckets) × (freeOf t (firstOf st) (st .buckets) hash ≡ (hash + looked) % st .buckets))
+
+-- RULES V13. The name's hash, and the walk to an empty bucket where the table isn't to grow.
+pub record Carried (st : State) (m : Lent) (name : List ℕ) (hash looked : ℕ) : Type 0 where
+  pub hashed : hash ≡ murmurHash2 (st .seed) name
+  pub empty : isSaturated st ≡ false → LastEmpty st (m .table) hash looked
 
 -- ---- a standing lane
 

@@ -17,6 +17,7 @@ ghost use mathlib.Core.Path.{_≡_};
 ghost use mathlib.Core.Bool.{true};
 ghost use Prim.Native.Nat.{_+_, _≤_, _/_};
 ghost use lib.ListN.{length};
+ghost use Rattle.murmurhash2.specs.Murmur.{murmurHash2};
 ghost use Rattle.shared_arena_hashmap.specs.Probe.{valuePlace};
 ghost use Rattle.store.specs.State.{firstOf};
 ghost use Rattle.store.specs.Name.{nameLimitOf, nameKind};
@@ -166,9 +167,19 @@ pub fn walk(st: State, table: &[u32], keys: &[u8], lists: &[u8], name: &[u8]) ->
     ensures { λ r. ⌜ r
         ≡ walkOf st (lent (now (table .entry)) (now (keys .entry)) (now (lists .entry))) (now (name .entry)) ⌝ }
 {
+    let hash = murmurhash2::murmurhash2(name, st.seed);
+    walk_hashed(st, table, keys, lists, hash, name)
+}
+
+// The same, where the name's hash is known already.
+fn walk_hashed(st: State, table: &[u32], keys: &[u8], lists: &[u8], hash: u32, name: &[u8]) -> Walk
+    requires { ⌜ (checked st (lent (now table) (now keys) (now lists)) ≡ true)
+        × (hash ≡ murmurHash2 (st .seed) (now name)) ⌝ }
+    ensures { λ r. ⌜ r
+        ≡ walkOf st (lent (now (table .entry)) (now (keys .entry)) (now (lists .entry))) (now (name .entry)) ⌝ }
+{
     let arena = st.key_arena;
     let first = first_bucket(st);
-    let hash = murmurhash2::murmurhash2(name, st.seed);
     shared_arena_hashmap::find(table, keys, arena, first, st.buckets, hash, name)
 }
 

@@ -9,7 +9,7 @@ use memory_arena::Allocated;
 use memory_arena::Arena;
 use shared_arena_hashmap::Met;
 ghost use mathlib.Core.Path.{_≡_};
-ghost use mathlib.Core.Bool.{true};
+ghost use mathlib.Core.Bool.{true, false};
 ghost use Prim.Native.Nat.{_+_, _/_, _≤_, _<_};
 ghost use lib.ListN.{length};
 ghost use Rattle.limits.specs.Limits.{nameLimit, bucketLimit};
@@ -17,15 +17,14 @@ ghost use Rattle.limits.specs.Refusals.{appending, permitted};
 ghost use Rattle.spans.specs.Span.{overwrite};
 ghost use Rattle.shared_arena_hashmap.specs.Power.{grownLength};
 ghost use Rattle.shared_arena_hashmap.specs.Probe.{valuePlace};
-ghost use Rattle.murmurhash2.specs.Murmur.{murmurHash2};
 ghost use Rattle.shared_arena_hashmap.specs.Grow.{entered};
 ghost use Rattle.expull.specs.Header.{fresh};
 ghost use Rattle.expull.specs.Append.{writing, appended};
 ghost use Rattle.store.specs.Said.{saidAppended};
 ghost use Rattle.store.specs.State.{firstOf};
-ghost use Rattle.store.specs.Name.{nameLimitOf};
+ghost use Rattle.store.specs.Name.{nameLimitOf, nameKind};
 ghost use Rattle.store.specs.Look.{lent, checked, walkOf, lookedOf};
-ghost use Rattle.store.specs.Append.{out, roomToGrow, isSaturated, isCrowded, grownState, stateGrown, tableGrown, movedState, appendStanding, Planned, standingWritten, recordBytes, newWritten, appendNew, onMet, appendOf};
+ghost use Rattle.store.specs.Append.{out, roomToGrow, isSaturated, isCrowded, grownState, stateGrown, tableGrown, movedState, appendStanding, Planned, Looked, LastEmpty, Carried, standingWritten, recordBytes, newWritten, appendNew, onMet, appendOf};
 
 pub fn is_saturated(st: State) -> bool
     requires { ⌜ (st .keys ≤ st .buckets) × (st .buckets ≤ bucketLimit) ⌝ }
@@ -173,8 +172,12 @@ fn write_new(
     bytes: &[u8],
     at: u32,
     key_arena: Arena,
+    hash: u32,
+    looked: usize,
 ) -> Appended
     requires { ⌜ Planned st (lent (now table) (now keys) (now lists)) fresh (now bytes) ⌝ }
+    requires { ⌜ Carried st (lent (now table) (now keys) (now lists)) (now name) hash looked
+        × (isCrowded st ≡ false) ⌝ }
     requires { ⌜ (length (now name) ≤ nameLimit) × (at + (length (now name) + 18) ≤ length (now keys)) ⌝ }
     ensures { λ r. ⌜ out r (lent (now (table .exit)) (now (keys .exit)) (now (lists .exit))) ≡ newWritten (appended (now (bytes .entry)) (writing (now (lists .entry)) (st .«list_arena») fresh)) st (lent (now (table .entry)) (now (keys .entry)) (now (lists .entry))) (now (name .entry)) at «key_arena» ⌝ }
 {
@@ -183,17 +186,22 @@ fn write_new(
     let list = expull::write::extend_from_slice(lists, arena, h, bytes);
     put_record(keys, at as usize, name, list.header);
     let grown = grow_table(st, table);
-    enter_new(st, grown, table, name, at);
+    enter_new(st.buckets, grown, table, at, hash, looked);
     Appended::Accepted(moved_state(grown, st.keys + 1, key_arena, list.arena))
 }
 
-// Enters a new name's record in the table, which has grown if it was to grow.
-fn enter_new(st: State, grown: State, table: &mut [u32], name: &[u8], at: u32)
+// Enters a new record in the table: as long as it has the buckets of before, in the empty one that the lookup met. One
+// that has grown is another table, and is probed.
+fn enter_new(before: usize, grown: State, table: &mut [u32], at: u32, hash: u32, looked: usize)
     requires { ⌜ (0 < grown .buckets) × ((grown .buckets ≤ grown .words / 2) × (grown .words ≡ length (now table))) ⌝ }
-    ensures { λ _. ⌜ now (table .exit) ≡ entered (firstOf grown) (grown .buckets) at (murmurHash2 (st .seed) (now (name .entry))) (now (table .entry)) ⌝ }
+    requires { ⌜ (grown .buckets ≡ before → LastEmpty grown (now table) hash looked) ⌝ }
+    ensures { λ _. ⌜ now (table .exit) ≡ entered (firstOf grown) (grown .buckets) at hash (now (table .entry)) ⌝ }
 {
     let first = crate::first_bucket(grown);
-    let hash = murmurhash2::murmurhash2(name, st.seed);
+    if grown.buckets == before {
+        shared_arena_hashmap::grow::enter_met(table, first, grown.buckets, at, hash, looked);
+        return;
+    }
     shared_arena_hashmap::grow::enter(table, first, grown.buckets, at, hash);
 }
 
@@ -205,9 +213,12 @@ fn append_new(
     lists: &mut [u8],
     name: &[u8],
     bytes: &[u8],
+    hash: u32,
+    looked: usize,
 ) -> Appended
     requires { ⌜ (checked st (lent (now table) (now keys) (now lists)) ≡ true)
         × (length (now name) ≤ nameLimitOf st) ⌝ }
+    requires { ⌜ Carried st (lent (now table) (now keys) (now lists)) (now name) hash looked ⌝ }
     ensures { λ r. ⌜ out r (lent (now (table .exit)) (now (keys .exit)) (now (lists .exit))) ≡ appendNew st (lent (now (table .entry)) (now (keys .entry)) (now (lists .entry))) (now (name .entry)) (now (bytes .entry)) ⌝ }
 {
     if is_crowded(st) {
@@ -223,7 +234,18 @@ fn append_new(
     if !expull::write::blocks_fit(lists_arena, lists.len(), h, bytes.len()) {
         return Appended::Declined(st, 7);
     }
-    write_new(st, table, keys, lists, name, bytes, at, key_arena)
+    write_new(
+        st,
+        table,
+        keys,
+        lists,
+        name,
+        bytes,
+        at,
+        key_arena,
+        hash,
+        looked,
+    )
 }
 
 // After a lap without an empty bucket: damage, unless the table is saturated.
@@ -234,30 +256,31 @@ fn append_after_lap(
     lists: &mut [u8],
     name: &[u8],
     bytes: &[u8],
+    hash: u32,
+    looked: usize,
 ) -> Appended
-    requires { ⌜ (checked st (lent (now table) (now keys) (now lists)) ≡ true)
-        × (length (now name) ≤ nameLimitOf st) ⌝ }
+    requires { ⌜ Looked st (lent (now table) (now keys) (now lists)) (now name) hash Met.Lap looked ⌝ }
     ensures { λ r. ⌜ out r (lent (now (table .exit)) (now (keys .exit)) (now (lists .exit))) ≡ onMet Met.Lap st (lent (now (table .entry)) (now (keys .entry)) (now (lists .entry))) (now (name .entry)) (now (bytes .entry)) ⌝ }
 {
     if is_saturated(st) {
-        return append_new(st, table, keys, lists, name, bytes);
+        return append_new(st, table, keys, lists, name, bytes, hash, looked);
     }
     Appended::Declined(st, 4)
 }
 
-// An append to a name that passed the guard, by what its lookup met.
-fn append_met(
+// An append to a name that was looked up: by its hash, by what that lookup met and how many buckets it looked at.
+pub fn append_met(
     st: State,
     table: &mut [u32],
     keys: &mut [u8],
     lists: &mut [u8],
     name: &[u8],
     bytes: &[u8],
+    hash: u32,
     met: Met,
+    looked: usize,
 ) -> Appended
-    requires { ⌜ (checked st (lent (now table) (now keys) (now lists)) ≡ true)
-        × (length (now name) ≤ nameLimitOf st) ⌝ }
-    requires { ⌜ walkOf st (lent (now table) (now keys) (now lists)) (now name) .met ≡ met ⌝ }
+    requires { ⌜ Looked st (lent (now table) (now keys) (now lists)) (now name) hash met looked ⌝ }
     ensures { λ r. ⌜ out r (lent (now (table .exit)) (now (keys .exit)) (now (lists .exit)))
         ≡ onMet met st (lent (now (table .entry)) (now (keys .entry)) (now (lists .entry))) (now (name .entry))
         (now (bytes .entry)) ⌝ }
@@ -265,8 +288,8 @@ fn append_met(
     match met {
         Met::Damaged => Appended::Declined(st, 4),
         Met::Standing(at) => append_standing(st, table, keys, lists, at, bytes),
-        Met::Empty => append_new(st, table, keys, lists, name, bytes),
-        Met::Lap => append_after_lap(st, table, keys, lists, name, bytes),
+        Met::Empty => append_new(st, table, keys, lists, name, bytes, hash, looked),
+        Met::Lap => append_after_lap(st, table, keys, lists, name, bytes, hash, looked),
     }
 }
 
@@ -280,7 +303,7 @@ fn append_proper(
     bytes: &[u8],
 ) -> ToldAppend
     requires { ⌜ (checked st (lent (now table) (now keys) (now lists)) ≡ true)
-        × (length (now name) ≤ nameLimitOf st) ⌝ }
+        × (nameKind st (length (now name)) ≡ Name.Proper) ⌝ }
     ensures settled { λ r. ⌜ out (r .answer) (lent (now (table .exit)) (now (keys .exit)) (now (lists .exit)))
         ≡ onMet
         (walkOf st (lent (now (table .entry)) (now (keys .entry)) (now (lists .entry))) (now (name .entry)) .met)
@@ -289,9 +312,10 @@ fn append_proper(
     ensures walked { λ r. ⌜ r .walk
         ≡ walkOf st (lent (now (table .entry)) (now (keys .entry)) (now (lists .entry))) (now (name .entry)) .looked ⌝ }
 {
-    let w = crate::walk(st, table, keys, lists, name);
+    let hash = murmurhash2::murmurhash2(name, st.seed);
+    let w = crate::walk_hashed(st, table, keys, lists, hash, name);
     let met = w.met;
-    let answer = append_met(st, table, keys, lists, name, bytes, met);
+    let answer = append_met(st, table, keys, lists, name, bytes, hash, met, w.looked);
     ToldAppend {
         answer,
         walk: w.looked,

@@ -7,7 +7,6 @@ use lib.ListN.{length}
 use Rattle.store.proofs.Fair.{fair-append}
 use Rattle.store.proofs.Cases.{append-2, append-3, append-13, append-met}
 use Rattle.store.proofs.Found.{looked-2, looked-3, looked-nameless, looked-walk}
-use Rattle.store.proofs.Guard.{kind-length}
 use Rattle.store.specs.Append.{Out}
 use Rattle.store.specs.Look.{Lent, lent, checked}
 use Rattle.store.specs.Name.{nameKind}
@@ -60,9 +59,7 @@ enum-told-3 c = search needs
 
 append-proper-requires : tie.Need-append-proper-requires
 append-proper-requires c κs =
-    let t = c .before .before .before in
-    let s = start (guarded t) in
-    (whole (guarded t), kind-length (s .args .st) (length (s .args .name .now)) Proper (proper t) .1)
+    let t = c .before .before .before in (whole (guarded t), proper t)
 
 returns-2 : tie.Need-returns-2
 returns-2 c =

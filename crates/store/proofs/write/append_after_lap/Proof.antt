@@ -3,6 +3,9 @@ use mathlib.Core.Path.{sym, _∙_}
 use borrow.Author.Needs.{needs}
 use lib.ListN.{length}
 use Rattle.store.proofs.Cases.{met-lap, met-lap-4}
+use Rattle.store.proofs.Carried.{carried-lap}
+use Rattle.store.proofs.Guard.{kind-length}
+use Rattle.store.specs.declared.Name.the-variants.{Proper}
 use Rattle.store.proofs.Whole.{whole-facts, buckets-few}
 use Rattle.store.specs.Look.{lent}
 use Rattle.store.proofs.write.append_after_lap.Statement.{statement}
@@ -12,11 +15,19 @@ is-saturated-requires : tie.Need-is-saturated-requires
 is-saturated-requires c κs =
     let s = c .before .before .before .before .before in
     let a = s .args in
-    let h = whole-facts (a .st) (length (a .table .now)) (length (a .keys .now)) (length (a .lists .now)) (s .pre .0) in
+    let h = whole-facts (a .st) (length (a .table .now)) (length (a .keys .now)) (length (a .lists .now)) (s .pre .whole) in
     (h .keys-le, buckets-few (a .st) _ _ _ h)
 
 append-new-requires : tie.Need-append-new-requires
-append-new-requires c κs = search needs
+append-new-requires c κs =
+    let t = c .before .before .before in
+    let s = t .before .before .before .before .before .before .before in
+    let a = s .args in
+    let e = sym (t .before .is-saturated .ensures) ∙ t .if1 .taken in (
+      (s .pre .whole, kind-length (a .st) (length (a .name .now)) Proper (s .pre .proper) .1),
+      carried-lap (a .st) (lent (a .table .now) (a .keys .now) (a .lists .now)) (a .name .now) (a .hash) (a .looked)
+          (s .pre) e,
+    )
 
 same-length : tie.Need-same-length
 same-length c = search needs

@@ -1,12 +1,17 @@
 -- The case that the lookup met. Assumes nothing.
-use mathlib.Core.Path.{_≡_, sym, ap, _∙_}
+use mathlib.Core.Path.{_≡_, sym, ap, subst, _∙_}
 use borrow.Author.Needs.{needs}
+use lib.ListN.{length}
 use Rattle.store.proofs.Cases.{met-damaged, met-standing, met-empty}
+use Rattle.store.proofs.Carried.{carried-empty}
 use Rattle.store.proofs.Found.{walk-held}
-use Rattle.store.specs.Append.{Out, onMet}
+use Rattle.store.proofs.Guard.{kind-length}
+use Rattle.store.specs.Append.{Out, Looked, onMet}
 use Rattle.store.specs.Look.{Lent, lent}
 use Rattle.shared_arena_hashmap.specs.declared.Met.the-variants.{Empty, Damaged, Lap}
+use Rattle.store.specs.declared.Name.the-variants.{Proper}
 use Rattle.shared_arena_hashmap.specs.declared.Met.{Met}
+use Rattle.shared_arena_hashmap.specs.declared.Walk.{Walk}
 use Rattle.store.proofs.write.append_met.Statement.{statement}
 use Rattle.store.proofs.write.append_met.Tie as tie
 
@@ -24,6 +29,15 @@ on-met : (c : tie.After-shared-slice-known2) (x : Met) → start c .args .met �
     → goesOn (start c) (start c .args .met) ≡ goesOn (start c) x
 on-met c x e = let s = start c in ap (goesOn s) e
 
+-- what the lookup hands on, by what it met
+looked-as : (c : tie.After-shared-slice-known2) (x : Met) → start c .args .met ≡ x
+    → Looked (start c .args .st) (memory (start c)) (start c .args .name .now) (start c .args .hash) x
+    (start c .args .looked)
+looked-as c x e =
+    let s = start c in
+    subst (λ (y : Met). Looked (s .args .st) (memory s) (s .args .name .now) (s .args .hash) y (s .args .looked)) e
+    (s .pre)
+
 enum-told : tie.Need-enum-told
 enum-told c = search needs
 
@@ -34,21 +48,29 @@ append-standing-requires : tie.Need-append-standing-requires
 append-standing-requires c κs =
     let w = c .before .before .before .before .before .before in
     let s = start w in
-    let e = s .pre .1 ∙ c .before .before .before .before .met .given .1 in
-    let h = walk-held (s .args .st) (memory s) (s .args .name .now) _ (s .pre .0 .0) e in
+    let e = ap (λ (v : Walk). v .met) (s .pre .walk) ∙ c .before .before .before .before .met .given .1 in
+    let h = walk-held (s .args .st) (memory s) (s .args .name .now) _ (s .pre .whole) e in
     (h .whole, (h .length-in, h .value-in))
 
 enum-told-2 : tie.Need-enum-told-2
 enum-told-2 c = search needs
 
 append-new-requires : tie.Need-append-new-requires
-append-new-requires c κs = search needs
+append-new-requires c κs =
+    let t = c .before .before .before in
+    let w = t .before .before in
+    let s = start w in
+    let a = s .args in (
+      (s .pre .whole, kind-length (a .st) (length (a .name .now)) Proper (s .pre .proper) .1),
+      carried-empty (a .st) (memory s) (a .name .now) (a .hash) (a .looked) (looked-as w Empty (t .enum-told2 .given .1)),
+    )
 
 enum-told-3 : tie.Need-enum-told-3
 enum-told-3 c = search needs
 
 append-after-lap-requires : tie.Need-append-after-lap-requires
-append-after-lap-requires c κs = search needs
+append-after-lap-requires c κs =
+    let t = c .before .before .before in looked-as (t .before .before) Lap (t .enum-told3 .given .1)
 
 returns : tie.Need-returns
 returns c =

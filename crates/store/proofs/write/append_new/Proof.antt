@@ -22,11 +22,11 @@ use Rattle.store.proofs.write.append_new.Tie as tie
 
 -- the whole-state check, clause by clause
 whole : (c : tie.Start) → Whole (c .args .st) (length (c .args .table .now)) (length (c .args .keys .now)) (length (c .args .lists .now))
-whole c = whole-facts (c .args .st) (length (c .args .table .now)) (length (c .args .keys .now)) (length (c .args .lists .now)) (c .pre .0)
+whole c = whole-facts (c .args .st) (length (c .args .table .now)) (length (c .args .keys .now)) (length (c .args .lists .now)) (c .pre .0 .0)
 
 -- a name's length is two bytes
 short : (c : tie.Start) → length (c .args .name .now) ≤ nameLimit
-short c = omega (arith, c .pre .1, name-within (c .args .st .«key_arena» .size))
+short c = omega (arith, c .pre .0 .1, name-within (c .args .st .«key_arena» .size))
 
 -- the table takes a new key
 roomy : (c : tie.Else1) → isCrowded (c .before .before .before .before .before .before .before .args .st) ≡ false
@@ -64,7 +64,7 @@ add-find-room c = omega (arith, short (c .before .before .before .before .before
 find-room-requires : tie.Need-find-room-requires
 find-room-requires c κs =
     let s = c .before .before .before .before .before .before .before .before in
-    (omega arith, (omega (arith, s .pre .1, record-fits (s .args .st .«key_arena» .size) (sensible-facts _ _ (whole s .key-arena) .sized)), whole s .key-arena))
+    (omega arith, (omega (arith, s .pre .0 .1, record-fits (s .args .st .«key_arena» .size) (sensible-facts _ _ (whole s .key-arena) .sized)), whole s .key-arena))
 
 enum-known-room : tie.Need-enum-known-room
 enum-known-room c = search needs
@@ -98,7 +98,7 @@ write-new-requires c κs =
     let a = s .args in
     let r = room-in (a .st .«key_arena») (length (a .keys .now)) (length (a .name .now) + recordExtra) _ _ (omega arith) (sensible-facts _ _ (whole s .key-arena) .stands)
     (sym (c .before .before .before .before .before .before .before .before .before .before .find-room .ensures) ∙ c .before .before .before .before .before .before .before .before .room .given .1) in
-    (record { whole = s .pre .0; sound = refl; tail = refl; room = sym (fit-is (c .before .before .before .before)) ∙ not-false _ (c .before .before .before .if2 .left) }, (short s, r))
+    (record { whole = s .pre .0 .0; sound = refl; tail = refl; room = sym (fit-is (c .before .before .before .before)) ∙ not-false _ (c .before .before .before .if2 .left) }, ((s .pre .1, roomy (c .before .before .before .before .before .before .before .before .before .before .before .before)), (short s, r)))
 
 same-length : tie.Need-same-length
 same-length c = search needs

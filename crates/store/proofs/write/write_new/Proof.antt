@@ -7,6 +7,7 @@ use native.Mathlib.Omega.{arith}
 use borrow.Author.Needs.{needs}
 use lib.ListN.{length}
 use Rattle.store.proofs.Cases.{new-done}
+use Rattle.store.proofs.Carried.{carried-on}
 use Rattle.store.proofs.Whole.{Growable, whole-facts, growable, grown-stands}
 use Rattle.store.specs.Append.{movedState}
 use Rattle.store.specs.Look.{lent}
@@ -16,7 +17,6 @@ use Rattle.expull.specs.Append.{writing, appended, goodTail, planOf, isSome}
 use Rattle.expull.specs.Header.{fresh, soundHeader}
 use Rattle.expull.specs.declared.Header.{Header}
 use Rattle.shared_arena_hashmap.specs.Grow.{entered}
-use Rattle.murmurhash2.specs.Murmur.{murmurHash2}
 use Rattle.store.proofs.write.write_new.Statement.{statement}
 use Rattle.store.proofs.write.write_new.Tie as tie
 
@@ -54,8 +54,11 @@ enter-new-requires c κs =
     let s = c .before .before .before .before .before .before .before .before .before .before .before .before .before .before .before .before .before .before .before .before in
     let e = sym (c .before .before .before .grow-table .ensures .0) in
     let k = grown-stands (s .args .st) (length (s .args .table .now)) (grow-ok s) in
-    let l = c .before .before .before .grow-table .kept .1 .0 in
-    subst (λ (g : State). (0 < g .buckets) × ((g .buckets ≤ g .words / 2) × (g .words ≡ length (c .before .before .before .grow-table .last .1 .0)))) e (k .0, (k .1 .0, k .1 .1 ∙ sym l))
+    let g = c .before .before .before .grow-table in
+    let l = g .kept .1 .0 in (
+      subst (λ (x : State). (0 < x .buckets) × ((x .buckets ≤ x .words / 2) × (x .words ≡ length (g .last .1 .0)))) e (k .0, (k .1 .0, k .1 .1 ∙ sym l)),
+      carried-on (s .args .st) (lent (s .args .table .now) (s .args .keys .now) (s .args .lists .now)) (s .args .name .now) (s .args .hash) (s .args .looked) (grow-ok s) (s .pre .1 .0 .1) (s .pre .1 .0 .0) (g .result) (g .last .1 .0) (g .ensures .0) (g .ensures .1),
+    )
 
 add-moved-state : tie.Need-add-moved-state
 add-moved-state c = omega (arith, grow-ok (c .before .before .before .before .before .before .before .before .before .before .before .before .before .before .before .before .before .before .before .before .before .before .before .before))
@@ -74,13 +77,14 @@ same-length-3 c = c .before .before .before .before .before .before .before .bef
 
 returns : tie.Need-returns
 returns c =
-    let a = c .before .before .before .before .before .before .before .before .before .before .before .before .before .before .before .before .before .before .before .before .before .before .before .before .before .args in
+    let s = c .before .before .before .before .before .before .before .before .before .before .before .before .before .before .before .before .before .before .before .before .before .before .before .before .before in
+    let a = s .args in
     let e = c .before .before .before .before .before .before .before .before .before .before .before .before .before .before .before .before .extend-from-slice in
     let g = c .before .before .before .before .before .before .before .before .grow-table .ensures in
     new-done (a .st) (lent (a .table .now) (a .keys .now) (a .lists .now)) (a .name .now) (a .bytes .now) (a .at) (a .key-arena) _ (writing (e .last .0) (e .result .arena) (e .result .header))
     (e .ensures ∙ ap (λ (h : Header). appended (a .bytes .now) (writing (a .lists .now) (a .st .«list_arena») h)) (c .before .before .before .before .before .before .before .before .before .before .before .before .before .before .before .before .before .before .fresh-header .ensures))
     (c .moved-state .result) _ _ _ (c .moved-state .ensures ∙ ap (λ (s : State). movedState s (a .st .keys + 1) (a .key-arena) (e .result .arena)) (g .0))
-    (c .before .before .before .before .enter-new .ensures ∙ (λ i. entered (firstOf (g .0 i)) (g .0 i .buckets) (a .at) (murmurHash2 (a .st .seed) (a .name .now)) (g .1 i)))
+    (c .before .before .before .before .enter-new .ensures ∙ (λ i. entered (firstOf (g .0 i)) (g .0 i .buckets) (a .at) (s .pre .1 .0 .0 .hashed i) (g .1 i)))
     (c .before .before .before .before .before .before .before .before .before .before .before .before .put-record .ensures) refl
 
 pub write-new-spec : {M : Type 1} → statement M

@@ -7,28 +7,25 @@ use lib.ListN.{length}
 use Rattle.store.proofs.Whole.{Whole, whole-facts, first-in}
 use Rattle.store.specs.Look.{walkOf}
 use Rattle.shared_arena_hashmap.specs.Probe.{lookup}
-use Rattle.store.proofs.walk.Statement.{statement}
-use Rattle.store.proofs.walk.Tie as tie
+use Rattle.store.proofs.walk_hashed.Statement.{statement}
+use Rattle.store.proofs.walk_hashed.Tie as tie
 
 -- the whole-state check, clause by clause
 whole : (c : tie.Start) → Whole (c .args .st) (length (c .args .table .now)) (length (c .args .keys .now)) (length (c .args .lists .now))
-whole c = whole-facts (c .args .st) (length (c .args .table .now)) (length (c .args .keys .now)) (length (c .args .lists .now)) (c .pre)
+whole c = whole-facts (c .args .st) (length (c .args .table .now)) (length (c .args .keys .now)) (length (c .args .lists .now)) (c .pre .0)
 
 first-bucket-requires : tie.Need-first-bucket-requires
 first-bucket-requires c κs = omega (arith, whole (c .before .before .before .before .before))
 
-murmurhash2-requires : tie.Need-murmurhash2-requires
-murmurhash2-requires c κs = search needs
-
 find-requires : tie.Need-find-requires
 find-requires c κs =
-    let s = c .before .before .before .before .before .before .before in
+    let s = c .before .before .before .before .before .before in
     let h = whole s in (
       h .key-arena,
       (
         h .power,
         subst (λ (f : ℕ). 2 * (f + s .args .st .buckets) ≤ length (s .args .table .now)) (sym
-            (c .before .first-bucket .ensures)) (first-in (s .args .st) (length (s .args .table .now)) (h .words-is) (h
+            (c .first-bucket .ensures)) (first-in (s .args .st) (length (s .args .table .now)) (h .words-is) (h
             .buckets-le)),
       ),
     )
@@ -36,9 +33,10 @@ find-requires c κs =
 returns : tie.Need-returns
 unfolding walkOf
 returns c =
-    let a = c .before .before .before .before .before .before .before .before .args in
+    let s = c .before .before .before .before .before .before .before in
+    let a = s .args in
     c .find .ensures
-    ∙ (λ i. lookup (a .table .now) (a .keys .now) (a .st .«key_arena») (c .before .before .first-bucket .ensures i) (a .st .buckets) (c .before .murmurhash2 .ensures i) (a .name .now))
+    ∙ (λ i. lookup (a .table .now) (a .keys .now) (a .st .«key_arena») (c .before .first-bucket .ensures i) (a .st .buckets) (s .pre .1 i) (a .name .now))
 
-pub walk-spec : {M : Type 1} → statement M
-walk-spec = tie.close (tie.spec first-bucket-requires murmurhash2-requires find-requires returns)
+pub walk-hashed-spec : {M : Type 1} → statement M
+walk-hashed-spec = tie.close (tie.spec first-bucket-requires find-requires returns)
