@@ -7,8 +7,10 @@ use mathlib.Core.List.{List}
 use Rattle.expull.specs.Append.{Writing, writing, filled, goodTail}
 use Rattle.store.specs.declared.State.{State}
 use Rattle.store.specs.declared.Appended.the-variants.{Accepted}
+use Rattle.store.specs.declared.Tried.{Tried}
+use Rattle.store.specs.declared.Tried.the-variants.{Done, Refused, LookedUp}
 use Rattle.store.specs.Look.{Lent, headerOf, headerSound}
-use Rattle.store.specs.Append.{Out, out, isSaturated}
+use Rattle.store.specs.Append.{Out, out, declined, isSaturated, Looked}
 
 -- an append of n bytes, at least one, to the lane of the record at a place: no damage, room in the last block, a
 -- table that isn't saturated
@@ -28,3 +30,10 @@ quickly st keys lists at bytes = filled bytes (writing lists (st .«list_arena»
 abbrev pub quickOf : Bool → State → Lent → Lent → Out → Type 0
 quickOf true st before after o = out (Accepted st) after ≡ o
 quickOf false st before after o = after ≡ before
+
+-- the same of how far it got: it has come to that with the state as it was; or nothing has changed, and the call comes to
+-- a refusal, or goes on from the lookup of its name
+abbrev pub triedOf : Tried → State → Lent → Lent → List ℕ → Out → Type 0
+triedOf Done st before after name o = out (Accepted st) after ≡ o
+triedOf (Refused n) st before after name o = (after ≡ before) × (o ≡ declined st before n)
+triedOf (LookedUp hash met looked) st before after name o = (after ≡ before) × Looked st before name hash met looked

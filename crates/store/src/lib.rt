@@ -12,6 +12,7 @@ pub mod write;
 
 use expull::Header;
 use memory_arena::Arena;
+use shared_arena_hashmap::Met;
 use shared_arena_hashmap::Walk;
 ghost use mathlib.Core.Path.{_≡_};
 ghost use mathlib.Core.Bool.{true};
@@ -110,6 +111,14 @@ pub enum Name {
     TooLong,
     Nameless,
     Proper,
+}
+
+// How far the short way of an append got: the append is done, or refused by a number before its lookup; or the name was
+// looked up, by this hash, and this is what that met and how many buckets it looked at.
+pub enum Tried {
+    Done,
+    Refused(u32),
+    LookedUp(u32, Met, usize),
 }
 
 // The number of keys, or a refusal.

@@ -2,6 +2,7 @@
 use crate::Head;
 use crate::Name;
 use crate::State;
+use crate::Tried;
 use expull::Extended;
 use shared_arena_hashmap::Met;
 ghost use mathlib.Core.Path.{_≡_};
@@ -16,17 +17,7 @@ ghost use Rattle.expull.specs.Header.{headerBytes};
 ghost use Rattle.store.specs.Name.{nameKind};
 ghost use Rattle.store.specs.Look.{lent, checked};
 ghost use Rattle.store.specs.Append.{appendStanding, appendOf};
-ghost use Rattle.store.specs.Quick.{Quick, quickly, quickOf};
-
-// Whether a name of n bytes is one that a lane can have.
-fn is_proper(st: State, n: usize) -> bool
-    ensures { λ r. ⌜ (r ≡ true → nameKind st n ≡ Name.Proper) ⌝ }
-{
-    if n == 0 {
-        return false;
-    }
-    n <= crate::name_limit(st)
-}
+ghost use Rattle.store.specs.Quick.{Quick, quickly, quickOf, triedOf};
 
 // Whether an append of n bytes to the lane at a place needs no block, and leaves the table as it is.
 fn is_quick(st: State, keys: &[u8], at: u32, n: usize) -> bool
@@ -95,6 +86,62 @@ fn quick_standing(
     false
 }
 
+// The same by name, which is looked up. Where it isn't such an append, nothing has changed, and the lookup is handed on.
+fn try_proper(
+    st: State,
+    table: &[u32],
+    keys: &mut [u8],
+    lists: &mut [u8],
+    name: &[u8],
+    bytes: &[u8],
+) -> Tried
+    requires { ⌜ (checked st (lent (now table) (now keys) (now lists)) ≡ true)
+        × (nameKind st (length (now name)) ≡ Name.Proper) ⌝ }
+    ensures { λ r. ⌜ triedOf r st (lent (now (table .entry)) (now (keys .entry)) (now (lists .entry)))
+        (lent (now (table .entry)) (now (keys .exit)) (now (lists .exit))) (now (name .entry))
+        (appendOf st (lent (now (table .entry)) (now (keys .entry)) (now (lists .entry))) (now (name .entry))
+        (now (bytes .entry))) ⌝ }
+{
+    let arena = st.key_arena;
+    let first = crate::first_bucket(st);
+    let hash = murmurhash2::murmurhash2(name, st.seed);
+    let w = shared_arena_hashmap::find(table, keys, arena, first, st.buckets, hash, name);
+    let met = w.met;
+    let Met::Standing(at) = met else {
+        return Tried::LookedUp(hash, met, w.looked);
+    };
+    if quick_standing(st, table, keys, lists, at, bytes) {
+        return Tried::Done;
+    }
+    Tried::LookedUp(hash, met, w.looked)
+}
+
+// Does an append that is such a one: the state stays as it is. Else it changes nothing, and tells the refusal, or what
+// `append_met` goes on from.
+pub fn try_append(
+    st: State,
+    table: &[u32],
+    keys: &mut [u8],
+    lists: &mut [u8],
+    name: &[u8],
+    bytes: &[u8],
+) -> Tried
+    ensures { λ r. ⌜ triedOf r st (lent (now (table .entry)) (now (keys .entry)) (now (lists .entry)))
+        (lent (now (table .entry)) (now (keys .exit)) (now (lists .exit))) (now (name .entry))
+        (appendOf st (lent (now (table .entry)) (now (keys .entry)) (now (lists .entry))) (now (name .entry))
+        (now (bytes .entry))) ⌝ }
+{
+    if !crate::check::is_whole_state(st, table.len(), keys.len(), lists.len()) {
+        return Tried::Refused(2);
+    }
+    let kind = crate::name_kind(st, name.len());
+    match kind {
+        Name::TooLong => Tried::Refused(3),
+        Name::Nameless => Tried::Refused(13),
+        Name::Proper => try_proper(st, table, keys, lists, name, bytes),
+    }
+}
+
 // Does an append that is such a one, and answers true: the state stays as it is. Else it changes nothing and answers
 // false: `append` then is to be called, which knows every case.
 pub fn append_quickly(
@@ -110,19 +157,10 @@ pub fn append_quickly(
         (appendOf st (lent (now (table .entry)) (now (keys .entry)) (now (lists .entry))) (now (name .entry))
         (now (bytes .entry))) ⌝ }
 {
-    if !crate::check::is_whole_state(st, table.len(), keys.len(), lists.len()) {
-        return false;
+    let tried = try_append(st, table, keys, lists, name, bytes);
+    match tried {
+        Tried::Done => true,
+        Tried::Refused(_) => false,
+        Tried::LookedUp(_, _, _) => false,
     }
-    if !is_proper(st, name.len()) {
-        return false;
-    }
-    let arena = st.key_arena;
-    let first = crate::first_bucket(st);
-    let hash = murmurhash2::murmurhash2(name, st.seed);
-    let w = shared_arena_hashmap::find(table, keys, arena, first, st.buckets, hash, name);
-    let met = w.met;
-    let Met::Standing(at) = met else {
-        return false;
-    };
-    quick_standing(st, table, keys, lists, at, bytes)
 }

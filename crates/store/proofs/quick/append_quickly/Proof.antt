@@ -1,136 +1,85 @@
--- Where the lookup meets the name's record, that record's short way. Assumes nothing.
-use Prim.Native.Nat.{ℕ, _+_, _*_, _≤_}
-use mathlib.Core.Bool.{true}
-use mathlib.Core.Path.{_≡_, sym, ap, subst, _∙_}
-use native.Mathlib.Omega.{arith}
-use lib.ListN.{length}
-use borrow.Author.Tests.{not-false}
-use Rattle.shared_arena_hashmap.specs.declared.Walk.{Walk}
-use Rattle.shared_arena_hashmap.specs.Probe.{lookup}
-use Rattle.store.specs.declared.Name.the-variants.{Proper}
-use Rattle.store.specs.Name.{nameKind}
-use Rattle.store.specs.Look.{lent, checked, walkOf}
-use Rattle.store.specs.Append.{appendOf, appendStanding}
-use Rattle.store.proofs.Whole.{Whole, whole-facts, first-in}
-use Rattle.store.proofs.Found.{walk-held}
-use Rattle.store.proofs.Cases.{append-met, met-standing}
+-- Whether the short way has done it. Assumes nothing.
+use mathlib.Core.Path.{_≡_, subst}
 use borrow.Author.Needs.{needs}
+use Rattle.store.specs.declared.Tried.{Tried}
+use Rattle.store.specs.Look.{Lent, lent}
+use Rattle.store.specs.Append.{appendOf}
+use Rattle.store.specs.Quick.{triedOf}
 use Rattle.store.proofs.quick.append_quickly.Statement.{statement}
 use Rattle.store.proofs.quick.append_quickly.Tie as tie
 
-is-whole-state-requires : tie.Need-is-whole-state-requires
-is-whole-state-requires c κs = search needs
+abbrev start : tie.After-slice-known4 → tie.Start
+start c = c .before .before .before .before .before .before .before .before .before .before .before .before
 
-returns : tie.Need-returns
-returns c = search needs
+abbrev memory : tie.Start → Lent
+memory s = lent (s .args .table .now) (s .args .keys .now) (s .args .lists .now)
 
-is-proper-requires : tie.Need-is-proper-requires
-is-proper-requires c κs = search needs
+-- how far it got
+got : (c : tie.After-slice-known4) (x : Tried) → c .before .before .before .before .try-append .result ≡ x
+    → triedOf x (start c .args .st) (memory (start c)) (lent (start c .args .table .now)
+    (c .before .before .before .before .try-append .last .1 .1 .0)
+    (c .before .before .before .before .try-append .last .1 .1 .1 .0)) (start c .args .name .now)
+    (appendOf (start c .args .st) (memory (start c)) (start c .args .name .now) (start c .args .bytes .now))
+got c x e =
+    let t = c .before .before .before .before .try-append in
+    let s = start c in
+    subst (λ (y : Tried). triedOf y (s .args .st) (memory s) (lent (s .args .table .now) (t .last .1 .1 .0)
+    (t .last .1 .1 .1 .0)) (s .args .name .now)
+    (appendOf (s .args .st) (memory s) (s .args .name .now) (s .args .bytes .now))) e (t .ensures)
 
-returns-2 : tie.Need-returns-2
-returns-2 c = search needs
+try-append-requires : tie.Need-try-append-requires
+try-append-requires c κs = search needs
 
--- what has been tested before the lookup
-abbrev start : tie.Else2 → tie.Start
-start c = c .before .before .before .before .before .before .before .before .before
+enum-told : tie.Need-enum-told
+enum-told c = search needs
 
-tested : (c : tie.Else2) → checked (start c .args .st) (lent (start c .args .table .now) (start c .args .keys .now)
-    (start c .args .lists .now)) ≡ true
-tested c = sym (c .before .before .before .is-whole-state .ensures) ∙ not-false _ (c .before .before .if1 .left)
+enum-told-2 : tie.Need-enum-told-2
+enum-told-2 c = search needs
 
-proper : (c : tie.Else2) → nameKind (start c .args .st) (length (start c .args .name .now)) ≡ Proper
-proper c = c .before .is-proper .ensures (not-false _ (c .if2 .left))
-
-whole : (c : tie.Else2) → Whole (start c .args .st) (length (start c .args .table .now)) (length (start c .args .keys
-    .now)) (length (start c .args .lists .now))
-whole c = whole-facts (start c .args .st) (length (start c .args .table .now)) (length (start c .args .keys .now))
-    (length (start c .args .lists .now)) (tested c)
-
--- the walk is the name's
-walk-is : (c : tie.After-find)
-    → c .find .result
-    ≡ walkOf (start (c .before .before .before .before .before) .args .st) (lent (start (c .before .before .before
-    .before .before) .args .table .now) (start (c .before .before .before .before .before) .args .keys .now) (start
-    (c .before .before .before .before .before) .args .lists .now)) (start (c .before .before .before .before
-    .before) .args .name .now)
-unfolding walkOf
-walk-is c =
-    let a = start (c .before .before .before .before .before) .args in
-    c .find .ensures
-    ∙ (λ i. lookup (a .table .now) (a .keys .now) (a .st .«key_arena») (c .before .before .before .first-bucket
-    .ensures i) (a .st .buckets) (c .before .before .murmurhash2 .ensures i) (a .name .now))
-
-first-bucket-requires : tie.Need-first-bucket-requires
-first-bucket-requires c κs = omega (arith, whole (c .before))
-
-murmurhash2-requires : tie.Need-murmurhash2-requires
-murmurhash2-requires c κs = search needs
-
-find-requires : tie.Need-find-requires
-find-requires c κs =
-    let a = start (c .before .before .before .before) .args in
-    let h = whole (c .before .before .before .before) in (
-      h .key-arena,
-      (
-        h .power,
-        subst (λ (f : ℕ). 2 * (f + a .st .buckets) ≤ length (a .table .now)) (sym (c .before
-            .before .first-bucket .ensures)) (first-in (a .st) (length (a .table .now)) (h .words-is) (h .buckets-le)),
-      ),
-    )
-
-enum-known-met : tie.Need-enum-known-met
-enum-known-met c = search needs
+enum-told-3 : tie.Need-enum-told-3
+enum-told-3 c = search needs
 
 same-length : tie.Need-same-length
 same-length c = search needs
 
-returns-3 : tie.Need-returns-3
-returns-3 c = search needs
-
-quick-standing-requires : tie.Need-quick-standing-requires
-quick-standing-requires c κs =
-    let a = start (c .before .before .before .before .before .before .before .before .before .before) .args in
-    let h = walk-held (a .st) (lent (a .table .now) (a .keys .now) (a .lists .now)) (a .name .now) _ (tested (c
-    .before .before .before .before .before .before .before .before .before .before)) (sym (ap (λ (w : Walk). w .met)
-    (walk-is (c .before .before .before .before .before))) ∙ c .before .before .before .met .given .1) in
-    (h .whole, (h .length-in, h .value-in))
-
 same-length-2 : tie.Need-same-length-2
 same-length-2 c = search needs
+
+returns : tie.Need-returns
+returns c = got (c .before .before) _ (c .enum-told .given .1)
 
 same-length-3 : tie.Need-same-length-3
 same-length-3 c = search needs
 
-returns-4 : tie.Need-returns-4
-returns-4 c =
-    let a = start (c .before .before .before .before .before .before .before .before .before .before .before .before
-    .before .before .before) .args in
-    let m = lent (a .table .now) (a .keys .now) (a .lists .now) in
-    let at = c .before .before .before .before .before .before .before .before .met .given .0 .0 in
-    let e : appendOf (a .st) m (a .name .now) (a .bytes .now) ≡ appendStanding (a .st) m at (a .bytes .now) =
-    append-met (a .st) m (a .name .now) (a .bytes .now) _ (tested (c .before .before .before .before .before .before
-    .before .before .before .before .before .before .before .before .before)) (proper (c .before .before .before
-    .before .before .before .before .before .before .before .before .before .before .before .before)) (sym (ap (λ
-    (w : Walk). w .met) (walk-is (c .before .before .before .before .before .before .before .before .before
-    .before))) ∙ c .before .before .before .before .before .before .before .before .met .given .1)
-    ∙ met-standing (a .st) m (a .name .now) (a .bytes .now) at in
-    rw e (c .before .before .before .before .quick-standing .ensures)
+same-length-4 : tie.Need-same-length-4
+same-length-4 c = search needs
+
+returns-2 : tie.Need-returns-2
+returns-2 c = got (c .before .before) _ (c .enum-told2 .given .1) .0
+
+same-length-5 : tie.Need-same-length-5
+same-length-5 c = search needs
+
+same-length-6 : tie.Need-same-length-6
+same-length-6 c = search needs
+
+returns-3 : tie.Need-returns-3
+returns-3 c = got (c .before .before) _ (c .enum-told3 .given .1) .0
 
 pub append-quickly-spec : {M : Type 1} → statement M
 append-quickly-spec =
     tie.close
     (tie.spec
-    is-whole-state-requires
-    returns
-    is-proper-requires
-    returns-2
-    first-bucket-requires
-    murmurhash2-requires
-    find-requires
-    enum-known-met
+    try-append-requires
+    enum-told
+    enum-told-2
+    enum-told-3
     same-length
-    returns-3
-    quick-standing-requires
     same-length-2
+    returns
     same-length-3
-    returns-4)
+    same-length-4
+    returns-2
+    same-length-5
+    same-length-6
+    returns-3)
