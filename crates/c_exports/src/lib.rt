@@ -7,17 +7,19 @@
 // calls it passes on.
 pub mod above;
 
+use shared_arena_hashmap::Met;
 use store::Answer;
 use store::Appended;
 use store::Created;
 use store::Listed;
 use store::Lookup;
 use store::Outcome;
+use store::Tried;
 ghost use mathlib.Core.Path.{_≡_};
 ghost use mathlib.Core.Bool.{true};
 ghost use Prim.Native.Nat.{_≤_};
 ghost use lib.ListN.{length};
-ghost use Rattle.store.specs.Append.{appendOf};
+ghost use Rattle.store.specs.Append.{Looked, appendOf};
 ghost use Rattle.store.specs.Look.{lent};
 ghost use Rattle.state_area.specs.Area.{areaSize, sensibleArea, stateAt};
 ghost use Rattle.c_exports.specs.Calls.{says, numberIn, answerTold, lookupTold, listedTold, savedCreated};
@@ -139,8 +141,8 @@ fn save_appended(state: &mut [u8], answer: Appended) -> u32
     }
 }
 
-// An append of any kind, on an area that was found sensible. The state is read from it again: one that had to be kept
-// since the short way was tried would cost every append.
+// An append that goes on from the lookup of its name, on an area that was found sensible. The state is read from it
+// again: one that had to be kept since the short way was tried would cost every append.
 fn append_fully(
     state: &mut [u8],
     table: &mut [u32],
@@ -148,16 +150,19 @@ fn append_fully(
     lists: &mut [u8],
     name: &[u8],
     bytes: &[u8],
+    hash: u32,
+    met: Met,
+    looked: usize,
 ) -> u32
-    requires { ⌜ sensibleArea (now state) ≡ true ⌝ }
+    requires { ⌜ (sensibleArea (now state) ≡ true)
+        × Looked (stateAt (now state)) (lent (now table) (now keys) (now lists)) (now name) hash met looked ⌝ }
     ensures { λ r. ⌜ ((r, now (state .exit)), lent (now (table .exit)) (now (keys .exit)) (now (lists .exit)))
         ≡ appended (appendOf (stateAt (now (state .entry)))
         (lent (now (table .entry)) (now (keys .entry)) (now (lists .entry))) (now (name .entry)) (now (bytes .entry)))
         (now (state .entry)) ⌝ }
 {
     let st = state_area::load(state);
-    let r = store::write::append(st, table, keys, lists, name, bytes);
-    let answer = r.answer;
+    let answer = store::write::append_met(st, table, keys, lists, name, bytes, hash, met, looked);
     save_appended(state, answer)
 }
 
@@ -179,10 +184,14 @@ pub extern "C" fn nuvrisel_append(
         return 2;
     }
     let st = state_area::load(state);
-    if store::quick::append_quickly(st, table, keys, lists, name, bytes) {
-        return 0;
+    let tried = store::quick::try_append(st, table, keys, lists, name, bytes);
+    match tried {
+        Tried::Done => 0,
+        Tried::Refused(n) => n,
+        Tried::LookedUp(hash, met, looked) => {
+            append_fully(state, table, keys, lists, name, bytes, hash, met, looked)
+        }
     }
-    append_fully(state, table, keys, lists, name, bytes)
 }
 
 // ---- what changes nothing but an output

@@ -1,10 +1,13 @@
--- The state that the area holds, and the new one saved. Assumes nothing.
+-- The state that the area holds, the append from the lookup on, and the new state saved. Assumes nothing.
 use Prim.Native.Nat.{ℕ}
-use mathlib.Core.Path.{ap, _∙_}
+use mathlib.Core.Path.{sym, ap, subst, _∙_}
 use mathlib.Core.List.{List}
+use Rattle.shared_arena_hashmap.specs.declared.Walk.{Walk}
 use Rattle.store.specs.declared.State.{State}
 use Rattle.store.specs.Look.{Lent, lent}
-use Rattle.store.specs.Append.{Out, appendOf}
+use Rattle.store.specs.Append.{Out, Looked, onMet}
+use Rattle.store.proofs.Cases.{append-met}
+use Rattle.state_area.specs.Area.{stateAt}
 use Rattle.state_area.proofs.Laws.{sensible-long}
 use Rattle.c_exports.specs.Calls.{appended}
 use borrow.Author.Needs.{needs}
@@ -12,15 +15,20 @@ use Rattle.c_exports.proofs.append_fully.Statement.{statement}
 use Rattle.c_exports.proofs.append_fully.Tie as tie
 
 load-requires : tie.Need-load-requires
-load-requires c κs = sensible-long _ (c .before .before .before .before .before .before .before .pre)
+load-requires c κs = sensible-long _ (c .before .before .before .before .before .before .before .pre .0)
 
-append-requires : tie.Need-append-requires
-append-requires c κs = search needs
+append-met-requires : tie.Need-append-met-requires
+append-met-requires c κs =
+    let l = c .before .before .before in
+    let s = l .before .before .before .before .before .before .before .before in
+    let a = s .args in
+    subst (λ (x : State). Looked x (lent (a .table .now) (a .keys .now) (a .lists .now)) (a .name .now) (a .hash) (a .met)
+    (a .looked)) (sym (l .load .ensures)) (s .pre .1)
 
 save-appended-requires : tie.Need-save-appended-requires
 save-appended-requires c κs =
     sensible-long _ (c .before .before .before .before .before .before .before .before .before .before .before
-    .before .before .before .before .before .before .before .before .pre)
+    .before .before .before .before .before .before .before .before .pre .0)
 
 same-length : tie.Need-same-length
 same-length c = search needs
@@ -38,19 +46,26 @@ returns : tie.Need-returns
 returns c =
     let d = c .before .before .before .before .before .before .before .before .before .before in
     let l = d .before .before .before .before in
-    let a = l .before .before .before .before .before .before .before .before .args in
+    let s = l .before .before .before .before .before .before .before .before in
+    let a = s .args in
+    let k = s .pre .1 in
     let m : Lent = lent (a .table .now) (a .keys .now) (a .lists .now) in
-    ap (λ (p : ℕ × List ℕ). (p, lent (d .append .last .1 .0) (d .append .last .1 .1 .0) (d .append .last .1 .1 .1 .0)))
-    (c .before .before .save-appended .ensures)
-    ∙ ap (λ (o : Out). appended o (a .state .now)) (d .append .ensures .0
-    ∙ ap (λ (s : State). appendOf s m (a .name .now) (a .bytes .now)) (l .load .ensures))
+    let met = ap (λ (w : Walk). w .met) (k .walk) in
+    ap (λ (p : ℕ × List ℕ). (
+      p,
+      lent (d .append-met .last .1 .0) (d .append-met .last .1 .1 .0) (d .append-met .last .1 .1
+          .1 .0),
+    )) (c .before .before .save-appended .ensures)
+    ∙ ap (λ (o : Out). appended o (a .state .now)) (d .append-met .ensures
+    ∙ ap (λ (x : State). onMet (a .met) x m (a .name .now) (a .bytes .now)) (l .load .ensures)
+    ∙ sym (append-met (stateAt (a .state .now)) m (a .name .now) (a .bytes .now) (a .met) (k .whole) (k .proper) met))
 
 pub append-fully-spec : {M : Type 1} → statement M
 append-fully-spec =
     tie.close
     (tie.spec
     load-requires
-    append-requires
+    append-met-requires
     save-appended-requires
     same-length
     same-length-2
