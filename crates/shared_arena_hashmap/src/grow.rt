@@ -61,7 +61,7 @@ pub fn enter(table: &mut [u32], first: usize, l: usize, address: u32, hash: u32)
     set_bucket(table, first + i, address, hash);
 }
 
-// Enters a record in the empty bucket that a lookup of its hash met, the k-th that it looked at: nothing is probed again.
+// Enters a record in the empty bucket that a lookup of its hash met, the k-th that it looked at. Nothing is probed.
 pub fn enter_met(table: &mut [u32], first: usize, l: usize, address: u32, hash: u32, k: usize)
     requires { ⌜ (powerOfTwo l ≡ true) × (2 * (first + l) ≤ length (now table)) ⌝ }
     requires { ⌜ (k ≤ l) × (freeOf (now table) first l hash ≡ (hash + k) % l) ⌝ }

@@ -16,7 +16,8 @@ use Rattle.shared_arena_hashmap.proofs.Room.{lookup-free}
 use Rattle.store.specs.declared.State.{State}
 use Rattle.store.specs.State.{firstOf}
 use Rattle.store.specs.Look.{Lent, walkOf}
-use Rattle.store.specs.Append.{isSaturated, roomToGrow, isCrowded, grows, stateGrown, tableGrown, Looked, LastEmpty, Carried}
+use Rattle.store.specs.Append.{isSaturated, roomToGrow, isCrowded, grows, stateGrown, tableGrown}
+use Rattle.store.specs.Append.{Looked, LastEmpty, Carried}
 use Rattle.store.proofs.Whole.{Whole, whole-facts, Growable}
 use Rattle.store.proofs.Cases.{state-stays, state-grows, table-stays, does-grow}
 

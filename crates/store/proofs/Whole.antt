@@ -79,6 +79,20 @@ first-in st w e h = go (st .back)
     go true = rw e (omega arith)
     go false = omega arith
 
+-- which is what a search in it asks
+pub find-asks : (st : State) (words keyBytes listBytes : ℕ) → Whole st words keyBytes listBytes → (first : ℕ)
+    → first ≡ firstOf st
+    → (sensible (st .«key_arena») keyBytes ≡ true)
+    × ((powerOfTwo (st .buckets) ≡ true) × (2 * (first + st .buckets) ≤ words))
+find-asks st w k l h first e = (
+  h .key-arena,
+  (
+    h .power,
+    subst (λ (f : ℕ). 2 * (f + st .buckets) ≤ w) (sym e) (first-in st w (h .words-is) (h
+        .buckets-le)),
+  ),
+)
+
 pub buckets-few : (st : State) (words keyBytes listBytes : ℕ) → Whole st words keyBytes listBytes → st .buckets ≤ bucketLimit
 buckets-few st w k l h = omega (arith, h .buckets-le, taken-facts w (h .taken) .1)
 

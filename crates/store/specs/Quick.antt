@@ -31,8 +31,8 @@ abbrev pub quickOf : Bool → State → Lent → Lent → Out → Type 0
 quickOf true st before after o = out (Accepted st) after ≡ o
 quickOf false st before after o = after ≡ before
 
--- the same of how far it got: it has come to that with the state as it was; or nothing has changed, and the call comes to
--- a refusal, or goes on from the lookup of its name
+-- the same of how far it got: it has come to that with the state as it was; or nothing has changed, and the call comes
+-- to a refusal, or goes on from the lookup of its name
 abbrev pub triedOf : Tried → State → Lent → Lent → List ℕ → Out → Type 0
 triedOf Done st before after name o = out (Accepted st) after ≡ o
 triedOf (Refused n) st before after name o = (after ≡ before) × (o ≡ declined st before n)

@@ -176,11 +176,14 @@ pub fn walk(st: State, table: &[u32], keys: &[u8], lists: &[u8], name: &[u8]) ->
     ensures { λ r. ⌜ r
         ≡ walkOf st (lent (now (table .entry)) (now (keys .entry)) (now (lists .entry))) (now (name .entry)) ⌝ }
 {
+    let arena = st.key_arena;
+    let first = first_bucket(st);
     let hash = murmurhash2::murmurhash2(name, st.seed);
-    walk_hashed(st, table, keys, lists, hash, name)
+    shared_arena_hashmap::find(table, keys, arena, first, st.buckets, hash, name)
 }
 
-// The same, where the name's hash is known already.
+// The same, where the name's hash is known already. `walk` isn't written over it: a lookup would then go through one
+// function more that takes the state, and pay for it.
 fn walk_hashed(st: State, table: &[u32], keys: &[u8], lists: &[u8], hash: u32, name: &[u8]) -> Walk
     requires { ⌜ (checked st (lent (now table) (now keys) (now lists)) ≡ true)
         × (hash ≡ murmurHash2 (st .seed) (now name)) ⌝ }

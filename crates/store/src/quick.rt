@@ -86,7 +86,7 @@ fn quick_standing(
     false
 }
 
-// The same by name, which is looked up. Where it isn't such an append, nothing has changed, and the lookup is handed on.
+// The same by name. Where it isn't such an append, nothing has changed, and the lookup of the name is handed on.
 fn try_proper(
     st: State,
     table: &[u32],
@@ -134,12 +134,14 @@ pub fn try_append(
     if !crate::check::is_whole_state(st, table.len(), keys.len(), lists.len()) {
         return Tried::Refused(2);
     }
-    let kind = crate::name_kind(st, name.len());
-    match kind {
-        Name::TooLong => Tried::Refused(3),
-        Name::Nameless => Tried::Refused(13),
-        Name::Proper => try_proper(st, table, keys, lists, name, bytes),
+    let n = name.len();
+    if n == 0 {
+        return Tried::Refused(13);
     }
+    if crate::name_limit(st) < n {
+        return Tried::Refused(3);
+    }
+    try_proper(st, table, keys, lists, name, bytes)
 }
 
 // Does an append that is such a one, and answers true: the state stays as it is. Else it changes nothing and answers

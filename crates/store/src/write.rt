@@ -24,7 +24,8 @@ ghost use Rattle.store.specs.Said.{saidAppended};
 ghost use Rattle.store.specs.State.{firstOf};
 ghost use Rattle.store.specs.Name.{nameLimitOf, nameKind};
 ghost use Rattle.store.specs.Look.{lent, checked, walkOf, lookedOf};
-ghost use Rattle.store.specs.Append.{out, roomToGrow, isSaturated, isCrowded, grownState, stateGrown, tableGrown, movedState, appendStanding, Planned, Looked, LastEmpty, Carried, standingWritten, recordBytes, newWritten, appendNew, onMet, appendOf};
+ghost use Rattle.store.specs.Append.{out, roomToGrow, isSaturated, isCrowded, grownState, stateGrown, tableGrown, movedState, appendStanding, Planned, standingWritten, recordBytes, newWritten, appendNew, onMet, appendOf};
+ghost use Rattle.store.specs.Append.{Looked, LastEmpty, Carried};
 
 pub fn is_saturated(st: State) -> bool
     requires { ⌜ (st .keys ≤ st .buckets) × (st .buckets ≤ bucketLimit) ⌝ }

@@ -22,8 +22,8 @@ append-met-requires c κs =
     let l = c .before .before .before in
     let s = l .before .before .before .before .before .before .before .before in
     let a = s .args in
-    subst (λ (x : State). Looked x (lent (a .table .now) (a .keys .now) (a .lists .now)) (a .name .now) (a .hash) (a .met)
-    (a .looked)) (sym (l .load .ensures)) (s .pre .1)
+    let m : Lent = lent (a .table .now) (a .keys .now) (a .lists .now) in
+    subst (λ (x : State). Looked x m (a .name .now) (a .hash) (a .met) (a .looked)) (sym (l .load .ensures)) (s .pre .1)
 
 save-appended-requires : tie.Need-save-appended-requires
 save-appended-requires c κs =

@@ -61,7 +61,8 @@ comes c st m = appendOf st m (start c .args .name .now) (start c .args .bytes .n
 
 -- the state as it was loaded
 loaded : (c : tie.After-slice-known6)
-    → c .before .before .before .before .before .before .before .before .load .result ≡ stateAt (start c .args .state .now)
+    → c .before .before .before .before .before .before .before .before .load .result
+    ≡ stateAt (start c .args .state .now)
 loaded c = c .before .before .before .before .before .before .before .before .load .ensures
 
 -- how far the short way got

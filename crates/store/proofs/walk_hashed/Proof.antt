@@ -1,10 +1,9 @@
 -- The whole-state check gives what the lookup asks. Assumes nothing.
-use Prim.Native.Nat.{ℕ, _+_, _*_, _≤_}
-use mathlib.Core.Path.{sym, subst, _∙_}
+use mathlib.Core.Path.{_∙_}
 use native.Mathlib.Omega.{arith}
 use borrow.Author.Needs.{needs}
 use lib.ListN.{length}
-use Rattle.store.proofs.Whole.{Whole, whole-facts, first-in}
+use Rattle.store.proofs.Whole.{Whole, whole-facts, find-asks}
 use Rattle.store.specs.Look.{walkOf}
 use Rattle.shared_arena_hashmap.specs.Probe.{lookup}
 use Rattle.store.proofs.walk_hashed.Statement.{statement}
@@ -20,15 +19,7 @@ first-bucket-requires c κs = omega (arith, whole (c .before .before .before .be
 find-requires : tie.Need-find-requires
 find-requires c κs =
     let s = c .before .before .before .before .before .before in
-    let h = whole s in (
-      h .key-arena,
-      (
-        h .power,
-        subst (λ (f : ℕ). 2 * (f + s .args .st .buckets) ≤ length (s .args .table .now)) (sym
-            (c .first-bucket .ensures)) (first-in (s .args .st) (length (s .args .table .now)) (h .words-is) (h
-            .buckets-le)),
-      ),
-    )
+    find-asks _ _ _ _ (whole s) _ (c .first-bucket .ensures)
 
 returns : tie.Need-returns
 unfolding walkOf

@@ -1,11 +1,13 @@
--- The refusals before the lookup, in their order, then the short way of a name that the guard lets through. Assumes
--- nothing.
+-- The refusals before the lookup, then the short way of a name that the guard lets through. Assumes nothing.
 use mathlib.Core.Bool.{true}
 use mathlib.Core.Path.{_≡_, refl, sym, _∙_}
+use native.Mathlib.Omega.{arith}
 use borrow.Author.Needs.{needs}
 use borrow.Author.Tests.{not-true, not-false}
+use lib.ListN.{length}
 use Rattle.store.specs.Look.{Lent, lent, checked}
 use Rattle.store.proofs.Cases.{append-2, append-3, append-13}
+use Rattle.store.proofs.Guard.{kind-long, kind-nameless, kind-proper}
 use Rattle.store.proofs.quick.try_append.Statement.{statement}
 use Rattle.store.proofs.quick.try_append.Tie as tie
 
@@ -30,40 +32,41 @@ returns c =
           .ensures) ∙ not-true _ (c .if1 .taken)),
     )
 
-name-kind-requires : tie.Need-name-kind-requires
-name-kind-requires c κs = search needs
+returns-2 : tie.Need-returns-2
+returns-2 c =
+    let s = start (c .before) in (
+      refl,
+      append-13 (s .args .st) (memory s) (s .args .name .now) (s .args .bytes .now) (whole (c .before))
+          (kind-nameless (s .args .st) (length (s .args .name .now)) (c .if2 .taken)),
+    )
 
-enum-told : tie.Need-enum-told
-enum-told c = search needs
+name-limit-requires : tie.Need-name-limit-requires
+name-limit-requires c κs = search needs
 
-enum-told-2 : tie.Need-enum-told-2
-enum-told-2 c = search needs
-
-enum-told-3 : tie.Need-enum-told-3
-enum-told-3 c = search needs
+returns-3 : tie.Need-returns-3
+returns-3 c =
+    let l = c .before in
+    let e = l .before .before in
+    let s = start e in (
+      refl,
+      append-3 (s .args .st) (memory s) (s .args .name .now) (s .args .bytes .now) (whole e)
+          (kind-long (s .args .st) (length (s .args .name .now))
+          (omega (arith, l .name-limit .ensures, c .if3 .taken))),
+    )
 
 try-proper-requires : tie.Need-try-proper-requires
 try-proper-requires c κs =
     let t = c .before .before in
-    let k = t .before .before in
-    (whole (k .before), sym (k .name-kind .ensures) ∙ t .enum-told3 .given .1)
-
-returns-2 : tie.Need-returns-2
-returns-2 c =
-    let k = c .before .before in
-    let s = start (k .before) in (
-      refl,
-      append-3 (s .args .st) (memory s) (s .args .name .now) (s .args .bytes .now) (whole (k .before)) (sym (k .name-kind
-          .ensures) ∙ c .enum-told .given .1),
-    )
-
-returns-3 : tie.Need-returns-3
-returns-3 c =
-    let k = c .before .before in
-    let s = start (k .before) in (
-      refl,
-      append-13 (s .args .st) (memory s) (s .args .name .now) (s .args .bytes .now) (whole (k .before)) (sym (k .name-kind
-          .ensures) ∙ c .enum-told2 .given .1),
+    let l = t .before in
+    let e = l .before .before in
+    let s = start e in (
+      whole e,
+      kind-proper (s .args .st) (length (s .args .name .now)) (omega (arith, l .before .if2 .left)) (omega (
+        arith,
+        l
+            .name-limit .ensures,
+        t .if3 .left,
+      )),
     )
 
 same-length : tie.Need-same-length
@@ -81,13 +84,10 @@ try-append-spec =
     (tie.spec
     is-whole-state-requires
     returns
-    name-kind-requires
-    enum-told
-    enum-told-2
-    enum-told-3
-    try-proper-requires
     returns-2
+    name-limit-requires
     returns-3
+    try-proper-requires
     same-length
     same-length-2
     returns-4)

@@ -1,5 +1,4 @@
 -- Where the lookup meets the name's record, that record's short way; else the lookup is handed on. Assumes nothing.
-use Prim.Native.Nat.{ℕ, _+_, _*_, _≤_}
 use mathlib.Core.Bool.{Bool}
 use mathlib.Core.Path.{_≡_, refl, sym, ap, subst, _∙_}
 use native.Mathlib.Omega.{arith}
@@ -11,7 +10,7 @@ use Rattle.shared_arena_hashmap.specs.Probe.{walked, lookup}
 use Rattle.store.specs.Look.{Lent, lent, walkOf}
 use Rattle.store.specs.Append.{Out, Looked, appendOf, appendStanding}
 use Rattle.store.specs.Quick.{quickOf}
-use Rattle.store.proofs.Whole.{Whole, whole-facts, first-in}
+use Rattle.store.proofs.Whole.{Whole, whole-facts, find-asks}
 use Rattle.store.proofs.Found.{walk-held}
 use Rattle.store.proofs.Cases.{append-met, met-standing}
 use borrow.Author.Needs.{needs}
@@ -38,15 +37,7 @@ murmurhash2-requires c κs = search needs
 find-requires : tie.Need-find-requires
 find-requires c κs =
     let f = c .before .before in
-    let s = start (f .before) in
-    let h = whole s in (
-      h .key-arena,
-      (
-        h .power,
-        subst (λ (b : ℕ). 2 * (b + s .args .st .buckets) ≤ length (s .args .table .now)) (sym (f .first-bucket .ensures))
-            (first-in (s .args .st) (length (s .args .table .now)) (h .words-is) (h .buckets-le)),
-      ),
-    )
+    find-asks _ _ _ _ (whole (start (f .before))) _ (f .first-bucket .ensures)
 
 -- the start of a call that has looked the name up
 abbrev origin : tie.After-find → tie.Start
@@ -64,8 +55,8 @@ walk-is c =
 
 -- and is handed on
 handed : (c : tie.After-find) (x : Met) → c .find .result .met ≡ x
-    → Looked (origin c .args .st) (memory (origin c)) (origin c .args .name .now) (c .before .before .murmurhash2 .result)
-    x (c .find .result .looked)
+    → Looked (origin c .args .st) (memory (origin c)) (origin c .args .name .now)
+    (c .before .before .murmurhash2 .result) x (c .find .result .looked)
 handed c x e = record {
   whole = origin c .pre .0;
   proper = origin c .pre .1;

@@ -15,7 +15,8 @@ is-saturated-requires : tie.Need-is-saturated-requires
 is-saturated-requires c κs =
     let s = c .before .before .before .before .before in
     let a = s .args in
-    let h = whole-facts (a .st) (length (a .table .now)) (length (a .keys .now)) (length (a .lists .now)) (s .pre .whole) in
+    let h = whole-facts (a .st) (length (a .table .now)) (length (a .keys .now)) (length (a .lists .now))
+    (s .pre .whole) in
     (h .keys-le, buckets-few (a .st) _ _ _ h)
 
 append-new-requires : tie.Need-append-new-requires

@@ -62,7 +62,8 @@ append-new-requires c κs =
     let s = start w in
     let a = s .args in (
       (s .pre .whole, kind-length (a .st) (length (a .name .now)) Proper (s .pre .proper) .1),
-      carried-empty (a .st) (memory s) (a .name .now) (a .hash) (a .looked) (looked-as w Empty (t .enum-told2 .given .1)),
+      carried-empty (a .st) (memory s) (a .name .now) (a .hash) (a .looked)
+          (looked-as w Empty (t .enum-told2 .given .1)),
     )
 
 enum-told-3 : tie.Need-enum-told-3

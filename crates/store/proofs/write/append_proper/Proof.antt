@@ -24,7 +24,8 @@ murmurhash2-requires c κs = search needs
 
 walk-hashed-requires : tie.Need-walk-hashed-requires
 walk-hashed-requires c κs =
-    let h = c .before .before .before in (h .before .before .before .before .before .before .pre .0, h .murmurhash2 .ensures)
+    let h = c .before .before .before in
+    (h .before .before .before .before .before .before .pre .0, h .murmurhash2 .ensures)
 
 append-met-requires : tie.Need-append-met-requires
 append-met-requires c κs =
@@ -57,4 +58,11 @@ returns c =
 pub append-proper-spec : {M : Type 1} → statement M
 append-proper-spec =
     tie.close
-    (tie.spec murmurhash2-requires walk-hashed-requires append-met-requires same-length same-length-2 same-length-3 returns)
+    (tie.spec
+    murmurhash2-requires
+    walk-hashed-requires
+    append-met-requires
+    same-length
+    same-length-2
+    same-length-3
+    returns)

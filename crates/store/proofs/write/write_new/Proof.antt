@@ -57,7 +57,9 @@ enter-new-requires c κs =
     let g = c .before .before .before .grow-table in
     let l = g .kept .1 .0 in (
       subst (λ (x : State). (0 < x .buckets) × ((x .buckets ≤ x .words / 2) × (x .words ≡ length (g .last .1 .0)))) e (k .0, (k .1 .0, k .1 .1 ∙ sym l)),
-      carried-on (s .args .st) (lent (s .args .table .now) (s .args .keys .now) (s .args .lists .now)) (s .args .name .now) (s .args .hash) (s .args .looked) (grow-ok s) (s .pre .1 .0 .1) (s .pre .1 .0 .0) (g .result) (g .last .1 .0) (g .ensures .0) (g .ensures .1),
+      carried-on (s .args .st) (lent (s .args .table .now) (s .args .keys .now) (s .args .lists .now)) (s .args .name .now)
+          (s .args .hash) (s .args .looked) (grow-ok s) (s .pre .1 .0 .1) (s .pre .1 .0 .0) (g .result) (g .last .1 .0)
+          (g .ensures .0) (g .ensures .1),
     )
 
 add-moved-state : tie.Need-add-moved-state

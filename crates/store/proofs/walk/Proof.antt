@@ -1,0 +1,35 @@
+-- The whole-state check gives what the lookup asks. Assumes nothing.
+use mathlib.Core.Path.{_∙_}
+use native.Mathlib.Omega.{arith}
+use borrow.Author.Needs.{needs}
+use lib.ListN.{length}
+use Rattle.store.proofs.Whole.{Whole, whole-facts, find-asks}
+use Rattle.store.specs.Look.{walkOf}
+use Rattle.shared_arena_hashmap.specs.Probe.{lookup}
+use Rattle.store.proofs.walk.Statement.{statement}
+use Rattle.store.proofs.walk.Tie as tie
+
+-- the whole-state check, clause by clause
+whole : (c : tie.Start) → Whole (c .args .st) (length (c .args .table .now)) (length (c .args .keys .now)) (length (c .args .lists .now))
+whole c = whole-facts (c .args .st) (length (c .args .table .now)) (length (c .args .keys .now)) (length (c .args .lists .now)) (c .pre)
+
+first-bucket-requires : tie.Need-first-bucket-requires
+first-bucket-requires c κs = omega (arith, whole (c .before .before .before .before .before))
+
+murmurhash2-requires : tie.Need-murmurhash2-requires
+murmurhash2-requires c κs = search needs
+
+find-requires : tie.Need-find-requires
+find-requires c κs =
+    let s = c .before .before .before .before .before .before .before in
+    find-asks _ _ _ _ (whole s) _ (c .before .first-bucket .ensures)
+
+returns : tie.Need-returns
+unfolding walkOf
+returns c =
+    let a = c .before .before .before .before .before .before .before .before .args in
+    c .find .ensures
+    ∙ (λ i. lookup (a .table .now) (a .keys .now) (a .st .«key_arena») (c .before .before .first-bucket .ensures i) (a .st .buckets) (c .before .murmurhash2 .ensures i) (a .name .now))
+
+pub walk-spec : {M : Type 1} → statement M
+walk-spec = tie.close (tie.spec first-bucket-requires murmurhash2-requires find-requires returns)
