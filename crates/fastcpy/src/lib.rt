@@ -18,8 +18,8 @@ pub enum Copied {
     Refused(u32),
 }
 
-// Bytes of the parts that a long copy is made in.
-const PART: usize = 4096;
+// Bytes of the parts that a long copy is made in: a list's largest block is one.
+const PART: usize = 32768;
 
 // Copies src over dst.
 pub fn fast_short_slice_copy(src: &[u8], dst: &mut [u8]) -> Copied
@@ -84,7 +84,7 @@ fn copy_words(src: &[u8], dst: &mut [u8])
 // Where the part from `at` on ends.
 fn part_end(at: usize, len: usize) -> usize
     requires { ⌜ at < len ⌝ }
-    ensures { λ r. ⌜ (at < r) × ((r ≤ len) × (r ≤ at + 4096)) ⌝ }
+    ensures { λ r. ⌜ (at < r) × ((r ≤ len) × (r ≤ at + 32768)) ⌝ }
 {
     if PART < len - at {
         return at + PART;
@@ -109,7 +109,7 @@ fn copy_parts(src: &[u8], dst: &mut [u8])
 // tell that neither copy overlaps itself, makes one block move of both, and the array goes. It can't tell that of src
 // and dst, and leaves a copy from one to the other a loop.
 fn copy_part(src: &[u8], dst: &mut [u8])
-    requires { ⌜ (length (now src) ≤ 4096) × (length (now src) ≡ length (now dst)) ⌝ }
+    requires { ⌜ (length (now src) ≤ 32768) × (length (now src) ≡ length (now dst)) ⌝ }
     ensures { λ _. ⌜ now (dst .exit) ≡ now (src .entry) ⌝ }
 {
     let mut near = [0u8; PART];
