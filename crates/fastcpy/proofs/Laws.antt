@@ -58,9 +58,10 @@ unfolding readSpan
 part-on-back s m ys p e h k l t q =
     let n : length (readSpan p (e - p) s) ≡ e - p = length-span p (e - p) s (omega arith) in
     let z : p + (e - p) ≡ e = omega arith in
-    rw (q, part-back m p e (readSpan p (e - p) s) h (omega arith) n)
-    (l ∙ sym (length-overwrite p (readSpan p (e - p) s) m),
-    rw z at (part-on s m p (e - p) (omega arith) l t))
+    rw (q, part-back m p e (readSpan p (e - p) s) h (omega arith) n) (
+      l ∙ sym (length-overwrite p (readSpan p (e - p) s) m),
+      rw z at (part-on s m p (e - p) (omega arith) l t),
+    )
 
 -- a list whose front was lent and has come back as the source, read there again
 pub front-back : (s m : List ℕ) (n : ℕ) → n ≡ length s → n ≤ length m

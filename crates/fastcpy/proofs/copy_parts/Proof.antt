@@ -56,10 +56,11 @@ loop-again : tie.Need-loop-again Inv-loop μ-loop
 loop-again c =
     let l = c .before .before .before .before .before .before .before .loop in
     let s = c .before .before .before .before .before .before .before .before .before .before .args .src .now in
-    let e = c .before .before .before .before .before .part-end .result in
-    (omega arith,
-    part-on-back s (l .dst) _ (l .at) e (omega arith) (omega arith) (l .inv .1 .0) (l .inv .1 .1)
-    (c .before .before .copy-part .ensures))
+    let e = c .before .before .before .before .before .part-end .result in (
+      omega arith,
+      part-on-back s (l .dst) _ (l .at) e (omega arith) (omega arith) (l .inv .1 .0) (l .inv .1 .1)
+          (c .before .before .copy-part .ensures),
+    )
 
 same-length : tie.Need-same-length Inv-loop μ-loop
 same-length c = omega arith
