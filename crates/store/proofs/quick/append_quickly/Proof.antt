@@ -1,17 +1,16 @@
 -- Where the lookup meets the name's record, that record's short way. Assumes nothing.
-use Prim.Native.Nat.{ℕ, _+_, _*_, _≤_}
 use mathlib.Core.Bool.{true}
-use mathlib.Core.Path.{_≡_, sym, ap, subst, _∙_}
+use mathlib.Core.Path.{_≡_, sym, ap, _∙_}
 use native.Mathlib.Omega.{arith}
 use lib.ListN.{length}
 use borrow.Author.Tests.{not-false}
 use Rattle.shared_arena_hashmap.specs.declared.Walk.{Walk}
-use Rattle.shared_arena_hashmap.specs.Probe.{lookup}
 use Rattle.store.specs.declared.Name.the-variants.{Proper}
 use Rattle.store.specs.Name.{nameKind}
 use Rattle.store.specs.Look.{lent, checked, walkOf}
 use Rattle.store.specs.Append.{appendOf, appendStanding}
-use Rattle.store.proofs.Whole.{Whole, whole-facts, first-in}
+use Rattle.store.proofs.Whole.{Whole, whole-facts}
+use Rattle.store.proofs.Walked.{find-asks, walk-found}
 use Rattle.store.proofs.Found.{walk-held}
 use Rattle.store.proofs.Cases.{append-met, met-standing}
 use borrow.Author.Needs.{needs}
@@ -53,12 +52,10 @@ walk-is : (c : tie.After-find)
     .before .before) .args .table .now) (start (c .before .before .before .before .before) .args .keys .now) (start
     (c .before .before .before .before .before) .args .lists .now)) (start (c .before .before .before .before
     .before) .args .name .now)
-unfolding walkOf
 walk-is c =
     let a = start (c .before .before .before .before .before) .args in
-    c .find .ensures
-    ∙ (λ i. lookup (a .table .now) (a .keys .now) (a .st .«key_arena») (c .before .before .before .first-bucket
-    .ensures i) (a .st .buckets) (c .before .before .murmurhash2 .ensures i) (a .name .now))
+    walk-found (a .st) (lent (a .table .now) (a .keys .now) (a .lists .now)) (a .name .now) _ _ _ (c .find .ensures)
+    (c .before .before .before .first-bucket .ensures) (c .before .before .murmurhash2 .ensures)
 
 first-bucket-requires : tie.Need-first-bucket-requires
 first-bucket-requires c κs = omega (arith, whole (c .before))
@@ -68,15 +65,10 @@ murmurhash2-requires c κs = search needs
 
 find-requires : tie.Need-find-requires
 find-requires c κs =
-    let a = start (c .before .before .before .before) .args in
-    let h = whole (c .before .before .before .before) in (
-      h .key-arena,
-      (
-        h .power,
-        subst (λ (f : ℕ). 2 * (f + a .st .buckets) ≤ length (a .table .now)) (sym (c .before
-            .before .first-bucket .ensures)) (first-in (a .st) (length (a .table .now)) (h .words-is) (h .buckets-le)),
-      ),
-    )
+    let d = c .before .before .before .before in
+    let a = start d .args in
+    find-asks (a .st) (lent (a .table .now) (a .keys .now) (a .lists .now)) _ (tested d) (c .before .before
+    .first-bucket .ensures)
 
 enum-known-met : tie.Need-enum-known-met
 enum-known-met c = search needs
