@@ -237,8 +237,7 @@ pub extern "C" fn nuvrisel_length(
         return tell(told, 2, 0, 0);
     }
     let st = state_area::load(state);
-    let r = store::look::length(st, table, keys, lists, name);
-    let answer = r.answer;
+    let answer = store::look::length_alone(st, table, keys, lists, name);
     tell_answer(told, answer)
 }
 

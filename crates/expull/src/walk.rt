@@ -32,15 +32,21 @@ fn walk(lists: &[u8], arena: Arena, head: u32, n: u32) -> Walked
     Walked::To(place)
 }
 
-// Whether the first n blocks of a list, bytes and link, are good spans.
+// Whether the first n blocks of a list, bytes and link, are good spans. The last one's link isn't read: it leads to no
+// block that is asked about, and lies far behind the bytes that are written, where nothing has been touched yet.
 pub fn are_good_blocks(lists: &[u8], arena: Arena, head: u32, n: u32) -> bool
     requires { ⌜ (sensible arena (length (now lists)) ≡ true) × (n ≤ numberLimit) ⌝ }
     ensures { λ r. ⌜ r ≡ goodBlocks arena (now (lists .entry)) head n ⌝ }
 {
-    let Walked::To(_) = walk(lists, arena, head, n) else {
+    if n == 0 {
+        return true;
+    }
+    let last = n - 1;
+    let Walked::To(place) = walk(lists, arena, head, last) else {
         return false;
     };
-    true
+    let size = headers::get_block_size(last + 3) as usize;
+    memory_arena::is_good_span(arena, place, size + limits::LINK)
 }
 
 // A reading: a lane's bytes to the front of the output.

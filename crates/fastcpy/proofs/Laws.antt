@@ -6,10 +6,12 @@ use native.Mathlib.Omega.{arith}
 use lib.ListN.{length, take, drop, getD, set, length-drop, drop-of-length-le, take-append-drop}
 use lib.Seq.{take-take, take-all, take-add}
 use borrow.Author.Tests.{eq-eqb, ne-eqb}
+use borrow.Rule.Slice.PartMut.{putMid}
 use Rattle.spans.specs.Span.{readSpan, overwrite}
 use Rattle.numbers.specs.LittleEndian.{leNumber, leBytes}
 use Rattle.numbers.proofs.Laws.{le-back}
 use Rattle.spans.proofs.Laws.{length-overwrite, length-span, span-bytes, read-written, read-before, overwrite-parts}
+use Rattle.spans.proofs.Laws.{part-back}
 use Rattle.fastcpy.specs.declared.Copied.the-variants.{Done, Refused}
 use Rattle.fastcpy.specs.Copy.{out, copyOf}
 
@@ -36,22 +38,50 @@ overwrite-rest s m f h l e =
     overwrite-parts f (drop f s) m (omega arith)
     ∙ rw (e, drop-of-length-le m {i = f + length (drop f s)} (omega arith), append-nil) (take-append-drop f s)
 
+-- k elements of the source written at p, where the first p are the source's already: then the first p + k are
+pub part-on : (s m : List ℕ) (p k : ℕ) → p + k ≤ length s → length s ≡ length m → take p m ≡ take p s
+    → take (p + k) (overwrite p (readSpan p k s) m) ≡ take (p + k) s
+unfolding readSpan
+part-on s m p k h l e =
+    let n : length (readSpan p k s) ≡ k = length-span p k s h in
+    let t : readSpan p k (overwrite p (readSpan p k s) m) ≡ readSpan p k s =
+    rw n at (read-written p (readSpan p k s) m (omega (arith, n))) in
+    let u : take p (overwrite p (readSpan p k s) m) ≡ take p s =
+    read-before 0 p p (readSpan p k s) m (omega arith) ∙ e in
+    take-add p k (overwrite p (readSpan p k s) m) ∙ (λ j. u j ++ t j) ∙ sym (take-add p k s)
+
+-- the same of a part that was lent, from p to e, and has come back as the source's
+pub part-on-back : (s m ys : List ℕ) (p e : ℕ) → p ≤ e → e ≤ length s → length s ≡ length m → take p m ≡ take p s
+    → ys ≡ take (e - p) (drop p s) → (length s ≡ length (putMid p (e - p) m ys)) × (take e (putMid p (e - p) m ys)
+    ≡ take e s)
+unfolding readSpan
+part-on-back s m ys p e h k l t q =
+    let n : length (readSpan p (e - p) s) ≡ e - p = length-span p (e - p) s (omega arith) in
+    let z : p + (e - p) ≡ e = omega arith in
+    rw (q, part-back m p e (readSpan p (e - p) s) h (omega arith) n) (
+      l ∙ sym (length-overwrite p (readSpan p (e - p) s) m),
+      rw z at (part-on s m p (e - p) (omega arith) l t),
+    )
+
+-- a list whose front was lent and has come back as the source, read there again
+pub front-back : (s m : List ℕ) (n : ℕ) → n ≡ length s → n ≤ length m
+    → take (n - 0) (drop 0 (putMid 0 (n - 0) m s)) ≡ s
+unfolding readSpan
+front-back s m n e h =
+    let z : n - 0 ≡ length s = omega arith in
+    rw (part-back m 0 n s (omega arith) h (omega arith), z) (read-written 0 s m (omega arith))
+
 -- ---- words that cover the whole
 
 -- a word of the source written at p, where the first p elements are the source's already: then the first p + 4 are
 pub word-on : (s m : List ℕ) (i p x : ℕ) → ((k : ℕ) → getD s k 0 < 256) → p ≤ i → p + 4 ≤ length s → length s
     ≡ length m → take i m ≡ take i s
     → x ≡ leNumber (readSpan p 4 s) → take (p + 4) (overwrite p (leBytes 4 x) m) ≡ take (p + 4) s
-unfolding readSpan
 word-on s m i p x f h k l e q =
     let n : length (readSpan p 4 s) ≡ 4 = length-span p 4 s k in
     let w : leBytes 4 x ≡ readSpan p 4 s = ap (leBytes 4) q ∙ ap (λ (w : ℕ). leBytes w (leNumber (readSpan p 4 s)))
     (sym n) ∙ le-back (readSpan p 4 s) (span-bytes s p 4 f) in
-    let t : readSpan p 4 (overwrite p (readSpan p 4 s) m) ≡ readSpan p 4 s =
-    rw n at (read-written p (readSpan p 4 s) m (omega (arith, n))) in
-    let u : take p (overwrite p (readSpan p 4 s) m) ≡ take p s =
-    read-before 0 p p (readSpan p 4 s) m (omega arith) ∙ sym (take-take p i m h) ∙ ap (take p) e ∙ take-take p i s h in
-    rw w (take-add p 4 (overwrite p (readSpan p 4 s) m) ∙ (λ j. u j ++ t j) ∙ sym (take-add p 4 s))
+    rw w (part-on s m p 4 k l (sym (take-take p i m h) ∙ ap (take p) e ∙ take-take p i s h))
 
 -- the four words of a copy
 pub four-words : (s m : List ℕ) (n k a b c d : ℕ) → ((k : ℕ) → getD s k 0 < 256) → n ≡ length s → length s

@@ -18,6 +18,9 @@ pub enum Copied {
     Refused(u32),
 }
 
+// Bytes of the parts that a long copy is made in: a list's largest block is one.
+const PART: usize = 32768;
+
 // Copies src over dst.
 pub fn fast_short_slice_copy(src: &[u8], dst: &mut [u8]) -> Copied
     ensures settled { λ r. ⌜ out r (now (dst .exit)) ≡ copyOf (now (src .entry)) (now (dst .entry)) ⌝ }
@@ -28,7 +31,7 @@ pub fn fast_short_slice_copy(src: &[u8], dst: &mut [u8]) -> Copied
     }
     let len = src.len();
     if 16 < len {
-        copy_from_slice(src, dst);
+        copy_parts(src, dst);
         return Copied::Done;
     }
     if len < 4 {
@@ -76,6 +79,53 @@ fn copy_words(src: &[u8], dst: &mut [u8])
     spans::put_u32(dst, second, b);
     spans::put_u32(dst, third, c);
     spans::put_u32(dst, last, d);
+}
+
+// Where the part from `at` on ends.
+fn part_end(at: usize, len: usize) -> usize
+    requires { ⌜ at < len ⌝ }
+    ensures { λ r. ⌜ (at < r) × ((r ≤ len) × (r ≤ at + 32768)) ⌝ }
+{
+    if PART < len - at {
+        return at + PART;
+    }
+    len
+}
+
+// More than that: part by part.
+fn copy_parts(src: &[u8], dst: &mut [u8])
+    requires { ⌜ length (now src) ≡ length (now dst) ⌝ }
+    ensures { λ _. ⌜ now (dst .exit) ≡ now (src .entry) ⌝ }
+{
+    let mut at = 0;
+    while at < src.len() {
+        let to = part_end(at, src.len());
+        copy_part(&src[at..to], &mut dst[at..to]);
+        at = to;
+    }
+}
+
+// A part, by way of an array. That is the faster way: nothing but this function knows the array, so the compiler can
+// tell that neither copy overlaps itself, makes one block move of both, and the array goes. It can't tell that of src
+// and dst, and leaves a copy from one to the other a loop.
+fn copy_part(src: &[u8], dst: &mut [u8])
+    requires { ⌜ (length (now src) ≤ 32768) × (length (now src) ≡ length (now dst)) ⌝ }
+    ensures { λ _. ⌜ now (dst .exit) ≡ now (src .entry) ⌝ }
+{
+    let mut near = [0u8; PART];
+    copy_through(src, &mut near, dst);
+}
+
+fn copy_through(src: &[u8], near: &mut [u8], dst: &mut [u8])
+    requires { ⌜ (length (now src) ≤ length (now near)) × (length (now src) ≡ length (now dst)) ⌝ }
+    ensures { λ _. ⌜ now (dst .exit) ≡ now (src .entry) ⌝ }
+{
+    let n = src.len();
+    if n == 0 {
+        return;
+    }
+    copy_from_slice(src, &mut near[0..n]);
+    copy_from_slice(&near[0..n], dst);
 }
 
 // Byte by byte.

@@ -23,7 +23,8 @@ ghost use Rattle.limits.specs.Refusals.{countingKeys, permitted};
 ghost use Rattle.memory_arena.specs.Calls.{sensible};
 ghost use Rattle.shared_arena_hashmap.specs.Probe.{valuePlace};
 ghost use Rattle.store.specs.Said.{saidLookup, saidAnswer, saidListed, saidCounted};
-ghost use Rattle.store.specs.Look.{lent, onMet, lookupOf, lookedOf, notFound, lengthAt, lengthOf};
+ghost use Rattle.store.specs.Name.{nameKind};
+ghost use Rattle.store.specs.Look.{lent, checked, onMet, lookupOf, lookedOf, notFound, lengthAt, lengthOf};
 ghost use Rattle.store.specs.Look.{reading, readAt, readOf, onBlock, blockAt, findBlockOf, showOf, onNext, nextOf, countOf};
 
 fn on_met(met: Met) -> Lookup
@@ -115,6 +116,43 @@ pub fn length(st: State, table: &[u32], keys: &[u8], lists: &[u8], name: &[u8]) 
     ToldAnswer {
         answer: length_at(keys, at),
         walk,
+    }
+}
+
+// The same of a name that a lane can have, in a store whose state is whole. The lookup's steps stand here once more:
+// called, they would take a state through memory and hand their answer back through it, which costs more than they do.
+fn length_proper(st: State, table: &[u32], keys: &[u8], lists: &[u8], name: &[u8]) -> Answer
+    requires { ⌜ (checked st (lent (now table) (now keys) (now lists)) ≡ true)
+        × (nameKind st (length (now name)) ≡ Name.Proper) ⌝ }
+    ensures { λ r. ⌜ r
+        ≡ lengthOf st (lent (now (table .entry)) (now (keys .entry)) (now (lists .entry))) (now (name .entry)) ⌝ }
+{
+    let arena = st.key_arena;
+    let first = crate::first_bucket(st);
+    let hash = murmurhash2::murmurhash2(name, st.seed);
+    let w = shared_arena_hashmap::find(table, keys, arena, first, st.buckets, hash, name);
+    let met = w.met;
+    let found = on_met(met);
+    let Lookup::At(at) = found else {
+        return not_found(found);
+    };
+    length_at(keys, at)
+}
+
+// A lane's length without the walk beside it, for a caller that asks often and doesn't tell the walk.
+pub fn length_alone(st: State, table: &[u32], keys: &[u8], lists: &[u8], name: &[u8]) -> Answer
+    ensures settled { λ r. ⌜ r
+        ≡ lengthOf st (lent (now (table .entry)) (now (keys .entry)) (now (lists .entry))) (now (name .entry)) ⌝ }
+    ensures numbered { λ r. ⌜ permitted measuring (saidAnswer r) ≡ true ⌝ }
+{
+    if !crate::check::is_whole_state(st, table.len(), keys.len(), lists.len()) {
+        return Answer::Refused(2, 0);
+    }
+    let kind = crate::name_kind(st, name.len());
+    match kind {
+        Name::TooLong => Answer::Refused(3, 0),
+        Name::Nameless => Answer::Absent,
+        Name::Proper => length_proper(st, table, keys, lists, name),
     }
 }
 

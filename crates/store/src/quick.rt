@@ -143,26 +143,3 @@ pub fn try_append(
     }
     try_proper(st, table, keys, lists, name, bytes)
 }
-
-// Does an append that is such a one, and answers true: the state stays as it is. Else it changes nothing and answers
-// false: `append` then is to be called, which knows every case.
-pub fn append_quickly(
-    st: State,
-    table: &[u32],
-    keys: &mut [u8],
-    lists: &mut [u8],
-    name: &[u8],
-    bytes: &[u8],
-) -> bool
-    ensures { λ r. ⌜ quickOf r st (lent (now (table .entry)) (now (keys .entry)) (now (lists .entry)))
-        (lent (now (table .entry)) (now (keys .exit)) (now (lists .exit)))
-        (appendOf st (lent (now (table .entry)) (now (keys .entry)) (now (lists .entry))) (now (name .entry))
-        (now (bytes .entry))) ⌝ }
-{
-    let tried = try_append(st, table, keys, lists, name, bytes);
-    match tried {
-        Tried::Done => true,
-        Tried::Refused(_) => false,
-        Tried::LookedUp(_, _, _) => false,
-    }
-}

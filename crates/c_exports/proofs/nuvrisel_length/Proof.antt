@@ -27,8 +27,8 @@ returns c = c .before .before .tell .ensures ∙ rw (sym (c .before .before .bef
 load-requires : tie.Need-load-requires
 load-requires c κs = sensible-long _ (sym (c .before .is-sensible-area .ensures) ∙ not-false _ (c .if1 .left))
 
-length-requires : tie.Need-length-requires
-length-requires c κs = search needs
+length-alone-requires : tie.Need-length-alone-requires
+length-alone-requires c κs = search needs
 
 tell-answer-requires : tie.Need-tell-answer-requires
 tell-answer-requires c κs = search needs
@@ -42,7 +42,7 @@ returns-2 c =
     .before .before .args in
     let m : Lent = lent (a .table .now) (a .keys .now) (a .lists .now) in
     c .before .before .tell-answer .ensures
-    ∙ ap (λ (x : Answer). answerTold x (a .told .now)) (c .before .before .before .before .length .ensures .0
+    ∙ ap (λ (x : Answer). answerTold x (a .told .now)) (c .before .before .before .before .length-alone .ensures .0
     ∙ ap (λ (s : State). lengthOf s m (a .name .now)) (c .before .before .before .before .before .load .ensures))
     ∙ rw (sym (c .before .before .before .before .before .before .before .is-sensible-area .ensures)
     ∙ not-false _ (c .before .before .before .before .before .before .if1 .left))
@@ -56,7 +56,7 @@ nuvrisel-length-spec =
     same-length
     returns
     load-requires
-    length-requires
+    length-alone-requires
     tell-answer-requires
     same-length-2
     returns-2)

@@ -1,13 +1,15 @@
 -- The whole-state check gives what the lookup asks. Assumes nothing.
-use mathlib.Core.Path.{_∙_}
 use native.Mathlib.Omega.{arith}
 use borrow.Author.Needs.{needs}
 use lib.ListN.{length}
 use Rattle.store.proofs.Whole.{Whole, whole-facts, find-asks}
-use Rattle.store.specs.Look.{walkOf}
-use Rattle.shared_arena_hashmap.specs.Probe.{lookup}
+use Rattle.store.proofs.Walked.{walk-found}
+use Rattle.store.specs.Look.{Lent, lent}
 use Rattle.store.proofs.walk.Statement.{statement}
 use Rattle.store.proofs.walk.Tie as tie
+
+abbrev memory : tie.Start → Lent
+memory s = lent (s .args .table .now) (s .args .keys .now) (s .args .lists .now)
 
 -- the whole-state check, clause by clause
 whole : (c : tie.Start) → Whole (c .args .st) (length (c .args .table .now)) (length (c .args .keys .now)) (length (c .args .lists .now))
@@ -25,11 +27,10 @@ find-requires c κs =
     find-asks _ _ _ _ (whole s) _ (c .before .first-bucket .ensures)
 
 returns : tie.Need-returns
-unfolding walkOf
 returns c =
-    let a = c .before .before .before .before .before .before .before .before .args in
-    c .find .ensures
-    ∙ (λ i. lookup (a .table .now) (a .keys .now) (a .st .«key_arena») (c .before .before .first-bucket .ensures i) (a .st .buckets) (c .before .murmurhash2 .ensures i) (a .name .now))
+    let s = c .before .before .before .before .before .before .before .before in
+    walk-found (s .args .st) (memory s) (s .args .name .now) _ _ _ (c .find .ensures)
+    (c .before .before .first-bucket .ensures) (c .before .murmurhash2 .ensures)
 
 pub walk-spec : {M : Type 1} → statement M
 walk-spec = tie.close (tie.spec first-bucket-requires murmurhash2-requires find-requires returns)

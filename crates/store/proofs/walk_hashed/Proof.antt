@@ -1,11 +1,10 @@
 -- The whole-state check gives what the lookup asks. Assumes nothing.
-use mathlib.Core.Path.{_∙_}
 use native.Mathlib.Omega.{arith}
 use borrow.Author.Needs.{needs}
 use lib.ListN.{length}
 use Rattle.store.proofs.Whole.{Whole, whole-facts, find-asks}
-use Rattle.store.specs.Look.{walkOf}
-use Rattle.shared_arena_hashmap.specs.Probe.{lookup}
+use Rattle.store.proofs.Walked.{walk-found}
+use Rattle.store.specs.Look.{lent}
 use Rattle.store.proofs.walk_hashed.Statement.{statement}
 use Rattle.store.proofs.walk_hashed.Tie as tie
 
@@ -22,12 +21,11 @@ find-requires c κs =
     find-asks _ _ _ _ (whole s) _ (c .first-bucket .ensures)
 
 returns : tie.Need-returns
-unfolding walkOf
 returns c =
     let s = c .before .before .before .before .before .before .before in
     let a = s .args in
-    c .find .ensures
-    ∙ (λ i. lookup (a .table .now) (a .keys .now) (a .st .«key_arena») (c .before .first-bucket .ensures i) (a .st .buckets) (s .pre .1 i) (a .name .now))
+    walk-found (a .st) (lent (a .table .now) (a .keys .now) (a .lists .now)) (a .name .now) _ _ _ (c .find .ensures)
+    (c .before .first-bucket .ensures) (s .pre .1)
 
 pub walk-hashed-spec : {M : Type 1} → statement M
 walk-hashed-spec = tie.close (tie.spec first-bucket-requires find-requires returns)

@@ -6,11 +6,12 @@ use lib.ListN.{length}
 use Rattle.shared_arena_hashmap.specs.declared.Met.{Met}
 use Rattle.shared_arena_hashmap.specs.declared.Met.the-variants.{Standing}
 use Rattle.shared_arena_hashmap.specs.declared.Walk.{Walk}
-use Rattle.shared_arena_hashmap.specs.Probe.{walked, lookup}
+use Rattle.shared_arena_hashmap.specs.Probe.{walked}
 use Rattle.store.specs.Look.{Lent, lent, walkOf}
 use Rattle.store.specs.Append.{Out, Looked, appendOf, appendStanding}
 use Rattle.store.specs.Quick.{quickOf}
 use Rattle.store.proofs.Whole.{Whole, whole-facts, find-asks}
+use Rattle.store.proofs.Walked.{walk-found}
 use Rattle.store.proofs.Found.{walk-held}
 use Rattle.store.proofs.Cases.{append-met, met-standing}
 use borrow.Author.Needs.{needs}
@@ -46,12 +47,10 @@ origin c = start (c .before .before .before .before)
 -- the walk is the name's
 walk-is : (c : tie.After-find) → c .find .result ≡ walkOf (origin c .args .st) (memory (origin c)) (origin c .args .name
     .now)
-unfolding walkOf
 walk-is c =
-    let a = origin c .args in
-    c .find .ensures
-    ∙ (λ i. lookup (a .table .now) (a .keys .now) (a .st .«key_arena») (c .before .before .before .first-bucket
-    .ensures i) (a .st .buckets) (c .before .before .murmurhash2 .ensures i) (a .name .now))
+    let s = origin c in
+    walk-found (s .args .st) (memory s) (s .args .name .now) _ _ _ (c .find .ensures)
+    (c .before .before .before .first-bucket .ensures) (c .before .before .murmurhash2 .ensures)
 
 -- and is handed on
 handed : (c : tie.After-find) (x : Met) → c .find .result .met ≡ x
