@@ -6,7 +6,7 @@ use Rattle.store.specs.declared.State.{State}
 use Rattle.store.specs.declared.Lookup.{Lookup}
 use Rattle.store.specs.Look.{Lent, lent, lookupOf}
 use Rattle.state_area.proofs.Laws.{sensible-long}
-use Rattle.c_exports.specs.Calls.{lookupTold}
+use Rattle.c_told.specs.Told.{lookupTold}
 use borrow.Author.Needs.{needs}
 use Rattle.c_exports.proofs.nuvrisel_lookup.Statement.{statement}
 use Rattle.c_exports.proofs.nuvrisel_lookup.Tie as tie

@@ -6,7 +6,7 @@ use Rattle.store.specs.declared.State.{State}
 use Rattle.store.specs.declared.Listed.{Listed}
 use Rattle.store.specs.Look.{Lent, lent, nextOf}
 use Rattle.state_area.proofs.Laws.{sensible-long}
-use Rattle.c_exports.specs.Calls.{listedTold}
+use Rattle.c_told.specs.Told.{listedTold}
 use borrow.Author.Needs.{needs}
 use Rattle.c_exports.proofs.nuvrisel_next.Statement.{statement}
 use Rattle.c_exports.proofs.nuvrisel_next.Tie as tie
