@@ -10,7 +10,7 @@ use Rattle.readings.specs.Readings.{appendReadingOf}
 use Rattle.state_area.specs.Area.{sensibleArea}
 use Rattle.state_area.proofs.Laws.{sensible-long}
 use Rattle.c_told.specs.Told.{savedAppended}
-use Rattle.c_told.proofs.Laws.{answered}
+use Rattle.c_told.proofs.Laws.{answered-with}
 use borrow.Author.Needs.{needs}
 use Rattle.c_above.proofs.drift.Statement.{statement}
 use Rattle.c_above.proofs.drift.Tie as tie
@@ -58,7 +58,7 @@ returns-2 c =
     let a = b .args in
     let m : Lent = lent (a .table .now) (a .keys .now) (a .lists .now) in
     let r = d .append-reading .last .1 in
-    answered (λ (o : Out). savedAppended (o .answer) (a .state .now)) (λ (o : Out). o .memory)
+    answered-with (λ (o : Out). savedAppended (o .answer) (a .state .now)) (λ (o : Out). o .memory)
     (λ (s : State). appendReadingOf s m (a .name .now) (a .last) (a .reading)) (a .state .now) _ _
     (out (d .append-reading .result .answer) (lent (r .0) (r .1 .0) (r .1 .1 .0))) (l .load .result) (sensible e)
     (c .before .before .save-appended .ensures) (d .append-reading .ensures .0

@@ -5,7 +5,7 @@ use Rattle.store.specs.declared.State.{State}
 use Rattle.store.specs.Look.{lent}
 use Rattle.report.specs.Report.{Out, out, reportOf}
 use Rattle.state_area.proofs.Laws.{sensible-long}
-use Rattle.c_told.proofs.Laws.{answered, unasked}
+use Rattle.c_told.proofs.Laws.{answered-with, senseless-with}
 use Rattle.c_above.specs.Above.{reportedTold}
 use borrow.Author.Needs.{needs}
 use Rattle.c_above.proofs.report.Statement.{statement}
@@ -23,7 +23,7 @@ same-length c = search needs
 returns : tie.Need-returns
 returns c =
     let e = c .before .before .before .before in
-    unasked _ _ _ _ _ (sym (e .before .is-sensible-area .ensures) ∙ not-true _ (e .if1 .taken))
+    senseless-with _ _ _ _ _ (sym (e .before .is-sensible-area .ensures) ∙ not-true _ (e .if1 .taken))
     (c .before .before .tell .ensures)
 
 load-requires : tie.Need-load-requires
@@ -47,7 +47,7 @@ returns-2 c =
     let l = d .before .before in
     let e = l .before in
     let a = e .before .before .before .before .before .before .before .before .args in
-    answered (λ (o : Out). reportedTold (o .answer) (a .told .now)) (λ (o : Out). o .output)
+    answered-with (λ (o : Out). reportedTold (o .answer) (a .told .now)) (λ (o : Out). o .output)
     (λ (s : State). reportOf s (lent (a .table .now) (a .keys .now) (a .lists .now)) (a .output .now)) (a .state .now) _ _
     (out (d .report .result) (d .report .last .1 .1 .1 .1 .0)) _ (sym (e .before .is-sensible-area .ensures)
     ∙ not-false _ (e .if1 .left)) (c .before .before .tell-reported .ensures) (d .report .ensures .0) (l .load .ensures)

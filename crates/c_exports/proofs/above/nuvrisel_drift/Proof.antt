@@ -1,7 +1,10 @@
 -- The call below, whose two readings are these. Assumes nothing.
-use mathlib.Core.Path.{_∙_}
+use Prim.Native.Nat.{ℕ}
+use lib.IntN.{ℤ}
+use mathlib.Core.Path.{_≡_, _∙_}
+use mathlib.Core.List.{List}
 use mir.Facts.{toZ-ofZ}
-use Rattle.store.specs.Look.{lent}
+use Rattle.store.specs.Look.{Lent}
 use Rattle.c_above.specs.Above.{driftIn}
 use borrow.Author.Needs.{needs}
 use Rattle.c_exports.proofs.above.nuvrisel_drift.Statement.{statement}
@@ -22,14 +25,16 @@ same-length-3 c = search needs
 same-length-4 : tie.Need-same-length-4
 same-length-4 c = search needs
 
+-- equal readings are one call
+same-readings : (area : List ℕ) (m : Lent) (name : List ℕ) (l l′ r r′ : ℤ) (x : (ℕ × List ℕ) × Lent) → l ≡ l′ → r ≡ r′
+    → x ≡ driftIn area m name l r → x ≡ driftIn area m name l′ r′
+same-readings area m name l l′ r r′ x p q e = e ∙ (λ i. driftIn area m name (p i) (q i))
+
 returns : tie.Need-returns
 returns c =
     let d = c .before .before .before .before .before .before .before .before in
-    let s = d .before .before .before .before .before .before .before .before .before .before in
-    let a = s .args in
-    d .drift .ensures
-    ∙ (λ i. driftIn (a .state .now) (lent (a .table .now) (a .keys .now) (a .lists .now)) (a .name .now)
-    (toZ-ofZ (s .fits .last) i) (toZ-ofZ (s .fits .reading) i))
+    let f = d .before .before .before .before .before .before .before .before .before .before .fits in
+    same-readings _ _ _ _ _ _ _ _ (toZ-ofZ (f .last)) (toZ-ofZ (f .reading)) (d .drift .ensures)
 
 pub nuvrisel-drift-spec : {M : Type 1} → statement M
 nuvrisel-drift-spec =
