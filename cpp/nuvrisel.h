@@ -111,10 +111,10 @@ uint32_t nuvrisel_readings(const uint8_t *state, size_t state_bytes, const uint3
  * (the scratch is shorter than the next lane), 3, 13, 5, 6, 7. A second call begins with the first lane again, and
  * would append the lanes that went across once more. */
 uint32_t nuvrisel_join(uint8_t *state, size_t state_bytes, uint32_t *table, size_t words, uint8_t *keys,
-                       size_t key_bytes, uint8_t *lists, size_t list_bytes, const uint8_t *state2,
-                       size_t state2_bytes, const uint32_t *table2, size_t words2, const uint8_t *keys2,
-                       size_t key2_bytes, const uint8_t *lists2, size_t list2_bytes, uint8_t *scratch,
-                       size_t scratch_bytes, uint32_t *told, size_t told_words);
+                       size_t key_bytes, uint8_t *lists, size_t list_bytes, const uint8_t *state2, size_t state2_bytes,
+                       const uint32_t *table2, size_t words2, const uint8_t *keys2, size_t key2_bytes,
+                       const uint8_t *lists2, size_t list2_bytes, uint8_t *scratch, size_t scratch_bytes,
+                       uint32_t *told, size_t told_words);
 
 #ifdef __cplusplus
 }

@@ -341,7 +341,8 @@ void told() {
 std::string lane_of(const Store &store, Bytes name) {
     std::vector<std::uint8_t> output(8192);
     const Answer a = store.read(name, output);
-    return a ? std::string(output.begin(), output.begin() + std::ptrdiff_t(a.number)) : std::to_string(unsigned(a.code));
+    return a ? std::string(output.begin(), output.begin() + std::ptrdiff_t(a.number))
+             : std::to_string(unsigned(a.code));
 }
 
 // The lanes of a store in listing order.
@@ -406,7 +407,8 @@ void joins() {
     IS(words[0] == 0xeeeeeeee && words[1] == 0xeeeeeeee, 1), IS(get(wide.data() + 28), 4);
     again();
     // 5, 6, 7: the first store lacks a bucket, a record, a block; it holds what went across before
-    const auto lacks = [&](unsigned code, std::size_t capacity, std::size_t words, std::size_t keys, std::size_t lists) {
+    const auto lacks = [&](unsigned code, std::size_t capacity, std::size_t words, std::size_t keys,
+                           std::size_t lists) {
         Memory small(words, keys, lists);
         IS(made(small, capacity), 0);
         const Answer a = small.store().join(second, scratch);
@@ -631,8 +633,7 @@ class Play {
 // Two stores, each played against a plain map, and joined; then with damage in one of them.
 class Halves {
   public:
-    explicit Halves(bool at_end)
-        : m_(64, 1024, 2048, at_end), n_(128, 2048, 4096, at_end), scratch_(512, at_end) {}
+    explicit Halves(bool at_end) : m_(64, 1024, 2048, at_end), n_(128, 2048, 4096, at_end), scratch_(512, at_end) {}
 
     void run(unsigned long long joins) {
         for (unsigned long long i = 0; i < joins; ++i, ++step) {
@@ -725,7 +726,8 @@ int main(int argc, char **argv) {
     creation(), states(), refusals(), readings(), faults(), told(), joins();
     Play(true).run(calls - calls / 2);
     Play(false).run(calls / 2);
+    const unsigned long long played = step;
     Halves(true).run(calls / 100), Halves(false).run(calls / 100);
-    std::printf("cpp: %llu random calls\ncpp: %llu checks\n", step, checks);
+    std::printf("cpp: %llu random calls, %llu random joins\ncpp: %llu checks\n", played, step - played, checks);
     return 0;
 }
