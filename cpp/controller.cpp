@@ -1,8 +1,9 @@
 // controller.cpp: an example. A salt line's controller records a shift: shot counts and the white reference of four
 // lanes, minute by minute. At the end it writes the shift report and an image of its memory, for ./check-report and for
-// the tool brownout.
+// the tool brownout. Where it is restarted in a minute, what comes behind it goes to a second store, and at the end the
+// two halves are joined: the report is that of the shift in one.
 //
-//   controller REPORT IMAGE [MINUTES]
+//   controller REPORT IMAGE [MINUTES [RESTART]]
 #include "nuvrisel.hpp"
 #include <cstdio>
 #include <cstdlib>
@@ -40,9 +41,9 @@ Code count_shots(Store &store, const std::string &lane, unsigned minute, unsigne
     return store.append(bytes_of(lane), bytes);
 }
 
-Code record(Store &store, unsigned minutes) {
-    std::int32_t white[4] = {0, 0, 0, 0};
-    for (unsigned minute = 0; minute < minutes; ++minute)
+// The minutes `from` to `to`; `white` has each lane's last reading.
+Code record(Store &store, std::int32_t (&white)[4], unsigned from, unsigned to) {
+    for (unsigned minute = from; minute < to; ++minute)
         for (int lane = 0; lane < 4; ++lane) {
             const std::string name = "salt-" + std::to_string(lane + 1);
             // The tile of lane 4 gets dirty, a little each minute.
@@ -59,12 +60,19 @@ Code record(Store &store, unsigned minutes) {
 } // namespace
 
 int main(int argc, char **argv) {
-    if (argc != 3 && argc != 4) return std::fprintf(stderr, "usage: controller REPORT IMAGE [MINUTES]\n"), 2;
-    Memory memory;
+    if (argc < 3 || argc > 5) return std::fprintf(stderr, "usage: controller REPORT IMAGE [MINUTES [RESTART]]\n"), 2;
+    const unsigned minutes = argc > 3 ? unsigned(std::atoi(argv[3])) : 480;
+    const unsigned restart = argc > 4 ? unsigned(std::atoi(argv[4])) : minutes;
+    Memory memory, second;
     Store store(memory.state, memory.table, memory.keys, memory.lists);
+    Store rest(second.state, second.table, second.keys, second.lists);
+    std::int32_t white[4] = {0, 0, 0, 0};
     if (const Code code = store.create(16, 3242157231u); code != Code::done) return stop("create", code);
-    if (const Code code = record(store, argc == 4 ? unsigned(std::atoi(argv[3])) : 480); code != Code::done)
-        return stop("the shift", code);
+    if (const Code code = record(store, white, 0, restart); code != Code::done) return stop("the shift", code);
+    if (const Code code = rest.create(16, 3242157231u); code != Code::done) return stop("create", code);
+    if (const Code code = record(rest, white, restart, minutes); code != Code::done) return stop("the shift", code);
+    std::vector<std::uint8_t> scratch(second.lists.size()); // no lane has more bytes than the list pages
+    if (const Answer joined = store.join(rest, scratch); !joined) return stop("join", joined.code);
 
     std::vector<std::uint8_t> text;
     Answer answer = store.report(text); // an empty output: 8 tells how much is needed

@@ -2,7 +2,8 @@
  *
  * The functions are those of crates/c_exports, proved: for any numbers and any areas each call ends, stays inside what
  * it is lent, and answers or refuses by a number; a refusal changes nothing that is lent but the three words in which
- * an answer is told. docs/LAYOUT.md has the layout of the areas, README.md the refusals.
+ * an answer is told, save that lanes which a join brought across before its refusal stay. docs/LAYOUT.md has the layout
+ * of the areas, README.md the refusals.
  *
  * What the caller owes, because C can't say it (docs/DECISIONS.md, D169):
  *   - each area is there, whole and initialised, for the whole call; a null pointer only with a length of 0;
@@ -34,7 +35,7 @@ extern "C" {
 #define NUVRISEL_TABLE_FULL 5u   /* a new name, and the table can't grow */
 #define NUVRISEL_KEYS_FULL 6u    /* the record of a new name doesn't fit the key pages */
 #define NUVRISEL_LISTS_FULL 7u   /* the blocks needed don't fit the list pages */
-#define NUVRISEL_SHORT_OUTPUT 8u /* the output is too short; what is needed is told */
+#define NUVRISEL_SHORT_OUTPUT 8u /* the output is too short; what is needed is told. Of a join: the scratch */
 #define NUVRISEL_NO_END 11u      /* readings: a vint without an end; the readings before it are told */
 #define NUVRISEL_OTHER_FORM 12u  /* readings: a vint not in its one form; the same is told */
 #define NUVRISEL_NAMELESS 13u    /* an append to the empty name */
@@ -102,6 +103,18 @@ uint32_t nuvrisel_readings(const uint8_t *state, size_t state_bytes, const uint3
                            const uint8_t *keys, size_t key_bytes, const uint8_t *lists, size_t list_bytes,
                            const uint8_t *name, size_t name_bytes, int32_t *output, size_t places, uint32_t *told,
                            size_t told_words);
+
+/* Joins a second store, in four areas of its own, onto the first: each of its lanes, in listing order, is read to the
+ * front of the scratch and appended to the first store under its name, until a refusal. How many lanes went across is
+ * told, with a refusal too: these stay, and the first store's state area holds them; of the refused lane and those
+ * behind it nothing has changed in the first store. The second store is only read. Refused: 2, 4 (of either store), 8
+ * (the scratch is shorter than the next lane), 3, 13, 5, 6, 7. A second call begins with the first lane again, and
+ * would append the lanes that went across once more. */
+uint32_t nuvrisel_join(uint8_t *state, size_t state_bytes, uint32_t *table, size_t words, uint8_t *keys,
+                       size_t key_bytes, uint8_t *lists, size_t list_bytes, const uint8_t *state2, size_t state2_bytes,
+                       const uint32_t *table2, size_t words2, const uint8_t *keys2, size_t key2_bytes,
+                       const uint8_t *lists2, size_t list2_bytes, uint8_t *scratch, size_t scratch_bytes,
+                       uint32_t *told, size_t told_words);
 
 #ifdef __cplusplus
 }

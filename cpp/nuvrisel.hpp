@@ -124,6 +124,13 @@ class Store {
     Answer report(Area<std::uint8_t> output) const noexcept {
         return ask(nuvrisel_report, output.data(), output.size());
     }
+    // Joins a second store, in areas of its own, onto this one. The number is how many lanes went across, with a
+    // refusal too: those stay.
+    Answer join(const Store &second, Area<std::uint8_t> scratch) noexcept {
+        return ask(nuvrisel_join, second.state_.data(), second.state_.size(), second.table_.data(),
+                   second.table_.size(), second.keys_.data(), second.keys_.size(), second.lists_.data(),
+                   second.lists_.size(), scratch.data(), scratch.size());
+    }
 
     // Bytes of the mark area that `check` needs.
     std::size_t mark_bytes() const noexcept { return (keys_.size() + lists_.size() + 7) / 8; }

@@ -1,9 +1,10 @@
 // test.cpp: the exported calls from C++, with a page that can't be touched on both sides of every area.
 //
-//   test [CALLS]      so many random calls with damage, by default 1,000,000
+//   test [CALLS]      so many random calls with damage, by default 1,000,000, and a fiftieth of that in random joins
 //
 // First each refusal and each fault, one by one. Then random calls: a store is created and played against a plain map
 // until its memory is damaged, and then played on. After each call what may not have changed is compared byte by byte.
+// Then two stores at a time, played, joined and held against a map, and joined again with damage in one of them.
 // The first thing that isn't as it should be ends the run with status 1; else the last line is 'cpp: N checks'.
 #include "nuvrisel.hpp"
 #include <cstdio>
@@ -160,6 +161,16 @@ void all_2(int line, const Store &given, Memory &m) {
         same("a call", line, unsigned(a.code), 2);
         same("what is told", line, a.number + a.beside, 0);
     }
+    // a join, with the store as the first and as the second
+    Memory other(24, 4096, 4096);
+    other.store().create(4, 9), other.store().append(bytes_of("B"), bytes_of("other"));
+    Kept good;
+    good.note(other);
+    for (const Answer &a : {store.join(other.store(), output), other.store().join(store, output)}) {
+        same("a join", line, unsigned(a.code), 2);
+        same("what is told", line, a.number + a.beside, 0);
+    }
+    same("the other store", line, good.holds(other) && !other.strayed(), 1);
     same("the memory", line, before.holds(m), 1);
     same("the output", line, output[0] == 1 && output[7] == 8 && marks[0] == 0xee && places[0] == 9, 1);
 }
@@ -322,6 +333,110 @@ void told() {
     IS(length(area.data() + 3, 2), 0), IS(area[3], 0xeeeeeeee), IS(area[4], 0xeeeeeeee);
     IS(length(area.data() + 2, 3), 0), IS(area[1], 0xeeeeeeee), IS(area[2], 3), IS(area[3], 0), IS(area[4], 0);
     IS(length(area.data(), 5), 0), IS(area[0], 3), IS(area[3], 0xeeeeeeee);
+}
+
+// ---- joins
+
+// What a lane reads as; the reading's code where it is refused.
+std::string lane_of(const Store &store, Bytes name) {
+    std::vector<std::uint8_t> output(8192);
+    const Answer a = store.read(name, output);
+    return a ? std::string(output.begin(), output.begin() + std::ptrdiff_t(a.number))
+             : std::to_string(unsigned(a.code));
+}
+
+// The lanes of a store in listing order.
+std::vector<std::string> listed(const Store &store) {
+    std::vector<std::string> names;
+    for (Answer a = store.next(0); a; a = store.next(std::size_t(a.number) + 1)) {
+        const Bytes name = store.name_at(a.beside);
+        names.emplace_back(name.begin(), name.end());
+    }
+    return names;
+}
+
+// Whole, and each refusal; what stays, what is told, and where the scratch and the second store are left.
+void joins() {
+    Memory m(24, 512, 512), n(48, 512, 512);
+    Store first = m.store(), second = n.store();
+    Fenced<std::uint8_t> scratch(12);
+    std::memset(scratch.data(), 0xee, 12);
+    IS(made(m, 4), 0), IS(second.create(8, 99, 65536), 0);
+    Kept held, kept;
+    held.note(m), kept.note(n);
+    IS(first.join(second, {}).code, 0), IS(first.join(second, {}).number, 0); // no lane, no scratch
+    IS(held.holds(m) && kept.holds(n), 1);
+    IS(first.append(bytes_of("A"), bytes_of("one ")), 0), IS(first.append(bytes_of("only"), bytes_of("1")), 0);
+    IS(second.append(bytes_of("A"), bytes_of("two")), 0), IS(second.append(bytes_of("new"), bytes_of("seven..")), 0);
+    IS(second.append(bytes_of("bare"), {}), 0);
+    held.note(m), kept.note(n);
+    const std::vector<std::string> order = listed(second);
+    IS(order.size(), 3);
+    const auto again = [&] {
+        std::memcpy(m.state.data(), held.state.data(), held.state.size());
+        std::memcpy(m.table.data(), held.table.data(), 4 * held.table.size());
+        std::memcpy(m.keys.data(), held.keys.data(), held.keys.size());
+        std::memcpy(m.lists.data(), held.lists.data(), held.lists.size());
+    };
+    // 8 with every scratch that is too short for a lane: the lanes before it stay, and the join is made again from the
+    // start on what the first store was
+    for (std::size_t room = 0; room <= 7; ++room) {
+        std::size_t across = 0;
+        while (across < 3 && lane_of(second, bytes_of(order[across])).size() <= room) ++across;
+        const Answer a = first.join(second, {scratch.data() + 12 - room, room});
+        IS(a.code, across < 3 ? 8 : 0), IS(a.number, across), IS(a.beside, 0);
+        for (std::size_t i = 0; i < 3; ++i) {
+            const Bytes name = bytes_of(order[i]);
+            const std::string was = order[i] == "A" ? "one " : i < across ? "" : "100";
+            IS(lane_of(first, name) == was + (i < across ? lane_of(second, name) : ""), 1);
+        }
+        IS(lane_of(first, bytes_of("only")) == "1", 1);
+        IS(kept.holds(n), 1);
+        again();
+    }
+    IS(std::memcmp(scratch.data(), "\xee\xee\xee\xee\xee", 5), 0);
+    // the state area behind its 64 bytes, a told area of two words
+    Fenced<std::uint8_t> wide(70);
+    std::memset(wide.data(), 0xee, 70), std::memcpy(wide.data(), m.state.data(), 64);
+    Fenced<std::uint32_t> words(2);
+    words[0] = words[1] = 0xeeeeeeee;
+    IS(nuvrisel_join(wide.data(), 70, m.table.data(), 24, m.keys.data(), 512, m.lists.data(), 512, n.state.data(), 64,
+                     n.table.data(), 48, n.keys.data(), 512, n.lists.data(), 512, scratch.data(), 12, words.data(), 2),
+       0);
+    for (std::size_t i = 64; i < 70; ++i) IS(wide[i], 0xee);
+    IS(words[0] == 0xeeeeeeee && words[1] == 0xeeeeeeee, 1), IS(get(wide.data() + 28), 4);
+    again();
+    // 5, 6, 7: the first store lacks a bucket, a record, a block; it holds what went across before
+    const auto lacks = [&](unsigned code, std::size_t capacity, std::size_t words, std::size_t keys,
+                           std::size_t lists) {
+        Memory small(words, keys, lists);
+        IS(made(small, capacity), 0);
+        const Answer a = small.store().join(second, scratch);
+        IS(a.code, code), IS(a.number < 3, 1), IS(get(small.state.data() + 28), a.number), IS(kept.holds(n), 1);
+        const std::string next = lane_of(second, bytes_of(order[std::size_t(a.number)]));
+        IS(small.store().append(bytes_of(order[std::size_t(a.number)]), bytes_of(next)), code);
+        // gone on in a larger store: what this one holds, then the lanes that are left, one by one
+        Memory large(24, 512, 512);
+        IS(made(large, 4), 0), IS(large.store().join(small.store(), scratch).number, a.number);
+        for (std::size_t i = std::size_t(a.number); i < 3; ++i)
+            IS(large.store().append(bytes_of(order[i]), bytes_of(lane_of(second, bytes_of(order[i])))), 0);
+        for (const std::string &name : order)
+            IS(lane_of(large.store(), bytes_of(name)) == lane_of(second, bytes_of(name)), 1);
+        IS(small.strayed() + large.strayed(), 0);
+    };
+    lacks(5, 1, 2, 512, 512), lacks(5, 2, 4, 512, 512);
+    lacks(6, 4, 24, 22, 512), lacks(6, 4, 24, 45, 512), lacks(7, 4, 24, 512, 11), lacks(7, 4, 24, 512, 13);
+    // damage in the second store: 4 at its lane, and a record without a name: 13
+    const std::size_t last = second.lookup(bytes_of(order[2])).number;
+    n.keys[last + 1] = 0xff, kept.note(n);
+    IS(first.join(second, scratch).code, 4), IS(get(m.state.data() + 28), order[2] == "A" ? 4 : 3), again();
+    IS(first.join(second, scratch).number, 2), IS(kept.holds(n), 1), again();
+    n.keys[last + 1] = n.keys[last] = 0;
+    put(&n.keys[last + 2], 2), put(&n.keys[last + 6], 0xffffffff), put(&n.keys[last + 10], 0xffffffff);
+    put(&n.keys[last + 14], 0), kept.note(n);
+    IS(first.join(second, scratch).code, 13), again();
+    IS(first.join(second, scratch).number, 2), IS(kept.holds(n), 1), again();
+    IS(m.strayed() + n.strayed() + scratch.strayed() + wide.strayed() + words.strayed(), 0);
 }
 
 // ---- random calls
@@ -515,13 +630,104 @@ class Play {
     bool whole_ = true;
 };
 
+// Two stores, each played against a plain map, and joined; then with damage in one of them.
+class Halves {
+  public:
+    explicit Halves(bool at_end) : m_(64, 1024, 2048, at_end), n_(128, 2048, 4096, at_end), scratch_(512, at_end) {}
+
+    void run(unsigned long long joins) {
+        for (unsigned long long i = 0; i < joins; ++i, ++step) {
+            begin(m_, first_, 1 + chance(16), chance(24)), begin(n_, second_, 1 + chance(32), chance(32));
+            kept_.note(n_);
+            join();
+            if (chance(2)) damaged();
+            IS(m_.strayed() + n_.strayed() + scratch_.strayed(), 0);
+        }
+    }
+
+  private:
+    using Lanes = std::map<std::string, std::string>;
+
+    static void begin(Memory &m, Lanes &lanes, std::size_t capacity, std::uint32_t appends) {
+        IS(m.store().create(capacity, chance(0xffffffff), chance(2) ? 65536 : 1048576), 0);
+        lanes.clear();
+        while (appends-- > 0) {
+            const std::string name(1 + chance(9), char('a' + chance(8)));
+            std::string bytes(chance(12) ? chance(24) : chance(500), ' ');
+            for (auto &b : bytes) b = char(chance(256));
+            if (m.store().append(bytes_of(name), bytes_of(bytes)) == Code::done) lanes[name] += bytes;
+        }
+    }
+
+    static void reads_as(Memory &m, const Lanes &lanes) {
+        IS(get(m.state.data() + 28), lanes.size());
+        for (const auto &lane : lanes) IS(lane_of(m.store(), bytes_of(lane.first)) == lane.second, 1);
+    }
+
+    void join() {
+        Store first = m_.store();
+        const std::vector<std::string> order = listed(n_.store());
+        IS(order.size(), second_.size());
+        const std::size_t room = chance(2) ? scratch_.size() : chance(80);
+        const Area<std::uint8_t> scratch(scratch_.data() + scratch_.size() - room, room);
+        std::memset(scratch_.data(), 0xee, scratch_.size());
+        const Answer a = first.join(n_.store(), scratch);
+        IS(among(a.code, {0, 5, 6, 7, 8}), 1), IS(a.beside, 0), IS(kept_.holds(n_), 1);
+        IS(a ? a.number == order.size() : a.number < order.size(), 1);
+        std::string front(scratch_.size() - room, '\xee'), over(room, '\xee');
+        const auto read = [&](const std::string &bytes) { over.replace(0, bytes.size(), bytes); };
+        for (std::size_t i = 0; i < a.number; ++i) read(second_[order[i]]), first_[order[i]] += second_[order[i]];
+        if (!a) {
+            const std::string &bytes = second_[order[std::size_t(a.number)]];
+            IS(a.code == Code::short_output, bytes.size() > room);
+            if (a.code != Code::short_output) {
+                read(bytes);
+                IS(first.append(bytes_of(order[std::size_t(a.number)]), bytes_of(bytes)), a.code);
+            }
+        }
+        IS(std::memcmp(scratch_.data(), (front + over).data(), scratch_.size()), 0);
+        reads_as(m_, first_);
+    }
+
+    // Damage in one of the two: every code is one of a join's, and only what may be written is.
+    void damaged() {
+        const bool in_second = chance(2);
+        Memory &hurt = in_second ? n_ : m_;
+        for (std::uint32_t k = 1 + chance(4); k > 0; --k) {
+            const std::uint32_t value = chance(2) ? 0xffffffff >> chance(32) : chance(4096);
+            switch (chance(6)) {
+            case 0:
+            case 1: hurt.table[chance(std::uint32_t(hurt.table.size()))] = value; break;
+            case 2:
+            case 3: hurt.keys[chance(std::uint32_t(hurt.keys.size()))] = std::uint8_t(value); break;
+            case 4: hurt.lists[chance(std::uint32_t(hurt.lists.size()))] = std::uint8_t(value); break;
+            case 5: put(hurt.state.data() + 4 * chance(16), value); break;
+            }
+        }
+        kept_.note(n_);
+        Kept before;
+        before.note(m_);
+        std::memset(scratch_.data(), 0xee, scratch_.size());
+        const Answer a = m_.store().join(n_.store(), scratch_);
+        IS(among(a.code, {0, 2, 3, 4, 5, 6, 7, 8, 13}), 1), IS(kept_.holds(n_), 1), IS(a.number <= 64, 1);
+        if (a.number == 0) IS(before.holds(m_), 1);
+    }
+
+    Memory m_, n_;
+    Fenced<std::uint8_t> scratch_;
+    Kept kept_;
+    Lanes first_, second_;
+};
+
 } // namespace
 
 int main(int argc, char **argv) {
     const unsigned long long calls = argc > 1 ? std::strtoull(argv[1], nullptr, 10) : 1000000;
-    creation(), states(), refusals(), readings(), faults(), told();
+    creation(), states(), refusals(), readings(), faults(), told(), joins();
     Play(true).run(calls - calls / 2);
     Play(false).run(calls / 2);
-    std::printf("cpp: %llu random calls\ncpp: %llu checks\n", step, checks);
+    const unsigned long long played = step;
+    Halves(true).run(calls / 100), Halves(false).run(calls / 100);
+    std::printf("cpp: %llu random calls, %llu random joins\ncpp: %llu checks\n", played, step - played, checks);
     return 0;
 }

@@ -1,3 +1,2 @@
--- `Seed`: an accepted append keeps the seed. `Promises`: the value of the record in specs/Promises.
-pub mod Seed
+-- `Promises`: the value of the record in specs/Promises.
 pub mod Promises

@@ -25,9 +25,10 @@ use Rattle.store.proofs.Promises.{promises as store·promises}
 use Rattle.state_area.specs.Area.{areaSize, sensibleArea, stateAt, areaOf, Fits}
 use Rattle.state_area.proofs.Laws.{sensible-long}
 use Rattle.state_area.proofs.Promises.{promises as area·promises}
-use Rattle.c_exports.specs.Calls.{savedCreated, created, createIn, savedAppended, appended, appendIn}
+use Rattle.c_told.specs.Told.{savedCreated, created, savedAppended, appended}
+use Rattle.c_told.proofs.Seed.{seed-kept}
+use Rattle.c_exports.specs.Calls.{createIn, appendIn}
 use Rattle.c_exports.specs.Promises.{Held, Promises}
-use Rattle.c_exports.proofs.Seed.{seed-kept}
 
 -- a state that fits, saved
 held : (x : ℕ × List ℕ) (st : State) (area : List ℕ) → x ≡ (0, overwrite 0 (areaOf st) area) → Fits st

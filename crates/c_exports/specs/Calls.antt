@@ -1,91 +1,15 @@
--- RULES AK5 to AK9. The store's calls in C's calling form (document 02, Twelve). Each makes of the lent area a state,
--- asks the store, and says in numbers what it answered: a code, and three words in a lent area where something is told.
-use Prim.Native.Nat.{ℕ, _/_, _%_, _^_}
+-- RULES AK7 to AK9. The store's calls in C's calling form (document 02, Twelve): the code, and each lent area as the
+-- call leaves it. Each makes of the lent area a state, asks the store, and says in numbers what it answered.
+use Prim.Native.Nat.{ℕ}
 use mathlib.Core.Bool.{cond}
-use mathlib.Core.List.{List, [], _∷_}
+use mathlib.Core.List.{List}
 use lib.Dec.{leb}
 use lib.ListN.{length}
-use Rattle.spans.specs.Span.{overwrite}
-use Rattle.store.specs.declared.Created.{Created}
-use Rattle.store.specs.declared.Created.the-variants.{Made, Barred}
-use Rattle.store.specs.declared.Appended.{Appended}
-use Rattle.store.specs.declared.Appended.the-variants.{Accepted, Declined}
-use Rattle.store.specs.declared.Lookup.{Lookup}
-use Rattle.store.specs.declared.Lookup.the-variants.{At, Missing, Failed}
-use Rattle.store.specs.declared.Outcome.{Outcome}
-use Rattle.store.specs.declared.Outcome.the-variants.{Length, Reading, Block, NoSuchBlock}
-use Rattle.store.specs.declared.Answer.{Answer}
-use Rattle.store.specs.declared.Answer.the-variants.{Absent, Found, Refused}
-use Rattle.store.specs.declared.Listed.{Listed}
-use Rattle.store.specs.declared.Listed.the-variants.{Bucket, NoMore, Stopped}
-use Rattle.store.specs.Create.{Out as Creation, creatable, createOf}
+use Rattle.store.specs.Create.{creatable, createOf}
 use Rattle.store.specs.Look.{Lent, lookupOf, lengthOf, Read, readOf, nextOf}
-use Rattle.store.specs.Append.{Out as Appending, appendOf}
-use Rattle.state_area.specs.Area.{areaSize, sensibleArea, stateAt, areaOf}
-
--- ---- what is said in numbers
-
--- RULES AK5. A refusal's code is its number, 0 is none. The other answers without a value have codes that no paper
--- gives to a refusal.
-abbrev pub absentCode : ℕ
-absentCode = 100
-
--- RULES AK5. No occupied bucket from there on.
-abbrev pub noMoreCode : ℕ
-noMoreCode = 101
-
--- RULES AK5. The brownout check's faults.
-abbrev pub faultCode : ℕ
-faultCode = 102
-
--- RULES AK5.
-abbrev pub countCode : ℕ
-countCode = 103
-
--- RULES AK6. What is told: a number of 64 bits, low word first, and a word beside it. An area of fewer than three words
--- is left as it was.
-abbrev pub tell : ℕ → ℕ → List ℕ → List ℕ
-tell n beside told = cond (leb 3 (length told)) (overwrite 0 (n % 2 ^ 32 ∷ n / 2 ^ 32 ∷ beside ∷ []) told) told
-
--- RULES AK6. A code, and the area of three words as the call leaves it.
-abbrev pub says : ℕ → ℕ → ℕ → List ℕ → ℕ × List ℕ
-says code n beside told = (code, tell n beside told)
-
--- RULES AK6. The number in a standing lane's outcome.
-abbrev pub numberIn : Outcome → ℕ
-numberIn (Length n) = n
-numberIn (Reading n) = n
-numberIn (Block at n) = n
-numberIn NoSuchBlock = 0
-
--- RULES AK6.
-abbrev pub answerTold : Answer → List ℕ → ℕ × List ℕ
-answerTold Absent told = says absentCode 0 0 told
-answerTold (Found o) told = says 0 (numberIn o) 0 told
-answerTold (Refused n t) told = says n t 0 told
-
--- RULES AK6.
-abbrev pub lookupTold : Lookup → List ℕ → ℕ × List ℕ
-lookupTold (At at) told = says 0 at 0 told
-lookupTold Missing told = says absentCode 0 0 told
-lookupTold (Failed n) told = says n 0 0 told
-
--- RULES AK6. The bucket, and its record's place beside it.
-abbrev pub listedTold : Listed → List ℕ → ℕ × List ℕ
-listedTold (Bucket i at) told = says 0 i at told
-listedTold NoMore told = says noMoreCode 0 0 told
-listedTold (Stopped n) told = says n 0 0 told
-
--- ---- the calls: the code, and each lent area as the call leaves it
-
--- RULES AK7. The area after a creation, and the code.
-abbrev pub savedCreated : Created → List ℕ → ℕ × List ℕ
-savedCreated (Made st) area = (0, overwrite 0 (areaOf st) area)
-savedCreated (Barred n) area = (n, area)
-
--- RULES AK7. The code, the state area, the table.
-abbrev pub created : Creation → List ℕ → (ℕ × List ℕ) × List ℕ
-created o area = (savedCreated (o .answer) area, o .table)
+use Rattle.store.specs.Append.{appendOf}
+use Rattle.state_area.specs.Area.{areaSize, sensibleArea, stateAt}
+use Rattle.c_told.specs.Told.{says, answerTold, lookupTold, listedTold, created, appended}
 
 -- RULES AK7. Create: 1, then 2 for a short area. What the area held doesn't matter.
 abbrev pub createIn : ℕ → ℕ → ℕ → List ℕ → List ℕ → ℕ → ℕ → (ℕ × List ℕ) × List ℕ
@@ -94,15 +18,6 @@ createIn capacity seed size area table keyBytes listBytes =
     (cond (leb areaSize (length area)) (created (createOf capacity seed size table keyBytes listBytes) area)
     ((2, area), table))
     ((1, area), table)
-
--- RULES AK8. The area after an append: the new state where it was accepted, else as it was.
-abbrev pub savedAppended : Appended → List ℕ → ℕ × List ℕ
-savedAppended (Accepted st) area = (0, overwrite 0 (areaOf st) area)
-savedAppended (Declined st n) area = (n, area)
-
--- RULES AK8. The code, the state area, the lent memory.
-abbrev pub appended : Appending → List ℕ → (ℕ × List ℕ) × Lent
-appended o area = (savedAppended (o .answer) area, o .memory)
 
 -- RULES AK8. Append.
 abbrev pub appendIn : List ℕ → Lent → List ℕ → List ℕ → (ℕ × List ℕ) × Lent

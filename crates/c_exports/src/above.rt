@@ -1,28 +1,8 @@
-// The calls of the crates above the store: the brownout check, the shift report, lanes of readings.
-use brownout_faults::Checked;
-use readings::Recalled;
-use report::Reported;
+// The calls of the crates above the store: the brownout check, the shift report, lanes of readings. The work is in
+// c_above; here they get their C names.
 ghost use mathlib.Core.Path.{_≡_};
 ghost use Rattle.store.specs.Look.{lent};
-ghost use Rattle.c_exports.specs.Above.{checkedTold, checkIn, reportedTold, reportIn, driftIn};
-ghost use Rattle.c_exports.specs.Above.{recalledTold, readingsIn};
-
-const FAULT: u32 = 102;
-
-const KEY_COUNT: u32 = 103;
-
-// ---- the brownout check
-
-fn tell_checked(told: &mut [u32], answer: Checked) -> u32
-    ensures { λ r. ⌜ (r, now (told .exit)) ≡ checkedTold answer (now (told .entry)) ⌝ }
-{
-    match answer {
-        Checked::Sound => crate::tell(told, 0, 0, 0),
-        Checked::Faulty(i, fault) => crate::tell(told, FAULT, i as u64, fault),
-        Checked::Miscounted => crate::tell(told, KEY_COUNT, 0, 0),
-        Checked::Refused(n, t) => crate::tell(told, n, t, 0),
-    }
-}
+ghost use Rattle.c_above.specs.Above.{checkIn, reportIn, driftIn, readingsIn};
 
 // Sound, or the first faulty bucket and its first fault.
 #[no_mangle]
@@ -38,23 +18,7 @@ pub extern "C" fn nuvrisel_check(
         ≡ checkIn (now (state .entry)) (lent (now (table .entry)) (now (keys .entry)) (now (lists .entry)))
         (now (marks .entry)) (now (told .entry)) ⌝ }
 {
-    if !state_area::is_sensible_area(state) {
-        return crate::tell(told, 2, 0, 0);
-    }
-    let st = state_area::load(state);
-    let answer = brownout::check(st, table, keys, lists, marks);
-    tell_checked(told, answer)
-}
-
-// ---- the shift report
-
-fn tell_reported(told: &mut [u32], answer: Reported) -> u32
-    ensures { λ r. ⌜ (r, now (told .exit)) ≡ reportedTold answer (now (told .entry)) ⌝ }
-{
-    match answer {
-        Reported::Written(n) => crate::tell(told, 0, n, 0),
-        Reported::Refused(n, t) => crate::tell(told, n, t, 0),
-    }
+    c_above::check(state, table, keys, lists, marks, told)
 }
 
 // The report's text to the front of the output.
@@ -71,15 +35,8 @@ pub extern "C" fn nuvrisel_report(
         ≡ reportIn (now (state .entry)) (lent (now (table .entry)) (now (keys .entry)) (now (lists .entry)))
         (now (output .entry)) (now (told .entry)) ⌝ }
 {
-    if !state_area::is_sensible_area(state) {
-        return crate::tell(told, 2, 0, 0);
-    }
-    let st = state_area::load(state);
-    let answer = report::report(st, table, keys, lists, output);
-    tell_reported(told, answer)
+    c_above::report(state, table, keys, lists, output, told)
 }
-
-// ---- lanes of readings
 
 // Appends a reading behind the lane's last accepted one.
 #[no_mangle]
@@ -96,23 +53,7 @@ pub extern "C" fn nuvrisel_drift(
         ≡ driftIn (now (state .entry)) (lent (now (table .entry)) (now (keys .entry)) (now (lists .entry)))
         (now (name .entry)) last reading ⌝ }
 {
-    if !state_area::is_sensible_area(state) {
-        return 2;
-    }
-    let st = state_area::load(state);
-    let r = readings::append_reading(st, table, keys, lists, name, last, reading);
-    let answer = r.answer;
-    crate::save_appended(state, answer)
-}
-
-fn tell_recalled(told: &mut [u32], answer: Recalled) -> u32
-    ensures { λ r. ⌜ (r, now (told .exit)) ≡ recalledTold answer (now (told .entry)) ⌝ }
-{
-    match answer {
-        Recalled::Readings(n) => crate::tell(told, 0, n, 0),
-        Recalled::Absent => crate::tell(told, crate::ABSENT, 0, 0),
-        Recalled::Refused(n, t) => crate::tell(told, n, t, 0),
-    }
+    c_above::drift(state, table, keys, lists, name, last, reading)
 }
 
 // A lane's readings to the front of the output.
@@ -130,11 +71,5 @@ pub extern "C" fn nuvrisel_readings(
         ≡ readingsIn (now (state .entry)) (lent (now (table .entry)) (now (keys .entry)) (now (lists .entry)))
         (now (name .entry)) (now (output .entry)) (now (told .entry)) ⌝ }
 {
-    if !state_area::is_sensible_area(state) {
-        return crate::tell(told, 2, 0, 0);
-    }
-    let st = state_area::load(state);
-    let r = readings::readings(st, table, keys, lists, name, output);
-    let answer = r.answer;
-    tell_recalled(told, answer)
+    c_above::readings(state, table, keys, lists, name, output, told)
 }

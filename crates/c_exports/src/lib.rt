@@ -6,102 +6,26 @@
 // byte or word but the three in which an answer is told. It uses state_area, store and the crates above the store whose
 // calls it passes on.
 pub mod above;
+pub mod joined;
 
+use c_told::save_appended;
+use c_told::save_created;
+use c_told::tell;
+use c_told::tell_answer;
+use c_told::tell_listed;
+use c_told::tell_lookup;
 use shared_arena_hashmap::Met;
-use store::Answer;
-use store::Appended;
-use store::Created;
-use store::Listed;
-use store::Lookup;
-use store::Outcome;
 use store::Tried;
 ghost use mathlib.Core.Path.{_≡_};
 ghost use mathlib.Core.Bool.{true};
-ghost use Prim.Native.Nat.{_≤_};
 ghost use lib.ListN.{length};
 ghost use Rattle.store.specs.Append.{Looked, appendOf};
 ghost use Rattle.store.specs.Look.{lent};
-ghost use Rattle.state_area.specs.Area.{areaSize, sensibleArea, stateAt};
-ghost use Rattle.c_exports.specs.Calls.{says, numberIn, answerTold, lookupTold, listedTold, savedCreated};
-ghost use Rattle.c_exports.specs.Calls.{createIn, savedAppended, appended, appendIn, lookupIn, lengthIn};
-ghost use Rattle.c_exports.specs.Calls.{nextIn, readIn};
-
-// ---- what is said in numbers
-
-const ABSENT: u32 = 100;
-
-const NO_MORE: u32 = 101;
-
-// Tells a number and a word beside it, where three words are lent for that; hands the code on.
-fn tell(told: &mut [u32], code: u32, number: u64, beside: u32) -> u32
-    ensures { λ r. ⌜ (r, now (told .exit)) ≡ says code number beside (now (told .entry)) ⌝ }
-{
-    if told.len() < 3 {
-        return code;
-    }
-    let low = (number % 4294967296) as u32;
-    let high = (number / 4294967296) as u32;
-    told[0] = low;
-    told[1] = high;
-    told[2] = beside;
-    code
-}
-
-fn number_in(o: Outcome) -> u64
-    ensures { λ r. ⌜ r ≡ numberIn o ⌝ }
-{
-    match o {
-        Outcome::Length(n) => n,
-        Outcome::Reading(n) => n,
-        Outcome::Block(_, n) => n,
-        Outcome::NoSuchBlock => 0,
-    }
-}
-
-fn tell_answer(told: &mut [u32], answer: Answer) -> u32
-    ensures { λ r. ⌜ (r, now (told .exit)) ≡ answerTold answer (now (told .entry)) ⌝ }
-{
-    match answer {
-        Answer::Absent => tell(told, ABSENT, 0, 0),
-        Answer::Found(o) => tell(told, 0, number_in(o), 0),
-        Answer::Refused(n, t) => tell(told, n, t, 0),
-    }
-}
-
-fn tell_lookup(told: &mut [u32], found: Lookup) -> u32
-    ensures { λ r. ⌜ (r, now (told .exit)) ≡ lookupTold found (now (told .entry)) ⌝ }
-{
-    match found {
-        Lookup::At(at) => tell(told, 0, at as u64, 0),
-        Lookup::Missing => tell(told, ABSENT, 0, 0),
-        Lookup::Failed(n) => tell(told, n, 0, 0),
-    }
-}
-
-fn tell_listed(told: &mut [u32], next: Listed) -> u32
-    ensures { λ r. ⌜ (r, now (told .exit)) ≡ listedTold next (now (told .entry)) ⌝ }
-{
-    match next {
-        Listed::Bucket(i, at) => tell(told, 0, i as u64, at),
-        Listed::NoMore => tell(told, NO_MORE, 0, 0),
-        Listed::Stopped(n) => tell(told, n, 0, 0),
-    }
-}
+ghost use Rattle.state_area.specs.Area.{sensibleArea, stateAt};
+ghost use Rattle.c_told.specs.Told.{appended};
+ghost use Rattle.c_exports.specs.Calls.{createIn, appendIn, lookupIn, lengthIn, nextIn, readIn};
 
 // ---- create and append
-
-fn save_created(state: &mut [u8], answer: Created) -> u32
-    requires { ⌜ areaSize ≤ length (now state) ⌝ }
-    ensures { λ r. ⌜ (r, now (state .exit)) ≡ savedCreated answer (now (state .entry)) ⌝ }
-{
-    match answer {
-        Created::Made(st) => {
-            state_area::save(state, st);
-            0
-        }
-        Created::Barred(n) => n,
-    }
-}
 
 // A fresh store over lent words and pages of `size` bytes; its state goes to the area.
 #[no_mangle]
@@ -126,19 +50,6 @@ pub extern "C" fn nuvrisel_create(
     }
     let answer = store::create::create(capacity, seed, size, table, keys, lists);
     save_created(state, answer)
-}
-
-fn save_appended(state: &mut [u8], answer: Appended) -> u32
-    requires { ⌜ areaSize ≤ length (now state) ⌝ }
-    ensures { λ r. ⌜ (r, now (state .exit)) ≡ savedAppended answer (now (state .entry)) ⌝ }
-{
-    match answer {
-        Appended::Accepted(st) => {
-            state_area::save(state, st);
-            0
-        }
-        Appended::Declined(_, n) => n,
-    }
 }
 
 // An append that goes on from the lookup of its name, on an area that was found sensible. The state is read from it

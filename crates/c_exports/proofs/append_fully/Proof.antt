@@ -9,7 +9,7 @@ use Rattle.store.specs.Append.{Out, Looked, onMet}
 use Rattle.store.proofs.Cases.{append-met}
 use Rattle.state_area.specs.Area.{stateAt}
 use Rattle.state_area.proofs.Laws.{sensible-long}
-use Rattle.c_exports.specs.Calls.{appended}
+use Rattle.c_told.specs.Told.{appended}
 use borrow.Author.Needs.{needs}
 use Rattle.c_exports.proofs.append_fully.Statement.{statement}
 use Rattle.c_exports.proofs.append_fully.Tie as tie

@@ -15,7 +15,7 @@ use Rattle.store.specs.Quick.{triedOf}
 use Rattle.state_area.specs.Area.{sensibleArea, stateAt, areaOf}
 use Rattle.state_area.proofs.Laws.{sensible-long}
 use Rattle.state_area.proofs.Back.{loaded-saved}
-use Rattle.c_exports.specs.Calls.{appended, appendIn}
+use Rattle.c_told.specs.Told.{appended}
 use borrow.Author.Needs.{needs}
 use Rattle.c_exports.proofs.nuvrisel_append.Statement.{statement}
 use Rattle.c_exports.proofs.nuvrisel_append.Tie as tie

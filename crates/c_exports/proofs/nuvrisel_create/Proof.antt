@@ -4,7 +4,7 @@ use mathlib.Core.Path.{_≡_, sym, ap, _∙_}
 use mathlib.Core.List.{List}
 use borrow.Author.Tests.{not-true, not-false, le-leb, lt-leb}
 use Rattle.store.specs.Create.{Out}
-use Rattle.c_exports.specs.Calls.{created}
+use Rattle.c_told.specs.Told.{created}
 use borrow.Author.Needs.{needs}
 use Rattle.c_exports.proofs.nuvrisel_create.Statement.{statement}
 use Rattle.c_exports.proofs.nuvrisel_create.Tie as tie

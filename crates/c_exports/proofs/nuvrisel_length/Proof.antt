@@ -6,7 +6,7 @@ use Rattle.store.specs.declared.State.{State}
 use Rattle.store.specs.declared.Answer.{Answer}
 use Rattle.store.specs.Look.{Lent, lent, lengthOf}
 use Rattle.state_area.proofs.Laws.{sensible-long}
-use Rattle.c_exports.specs.Calls.{answerTold}
+use Rattle.c_told.specs.Told.{answerTold}
 use borrow.Author.Needs.{needs}
 use Rattle.c_exports.proofs.nuvrisel_length.Statement.{statement}
 use Rattle.c_exports.proofs.nuvrisel_length.Tie as tie

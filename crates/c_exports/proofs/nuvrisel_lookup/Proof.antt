@@ -1,12 +1,12 @@
 -- The store's answer, told. Assumes nothing.
-use mathlib.Core.Path.{sym, ap, _∙_}
-use mathlib.Core.List.{List}
+use mathlib.Core.Path.{sym, _∙_}
 use borrow.Author.Tests.{not-true, not-false}
 use Rattle.store.specs.declared.State.{State}
 use Rattle.store.specs.declared.Lookup.{Lookup}
-use Rattle.store.specs.Look.{Lent, lent, lookupOf}
+use Rattle.store.specs.Look.{lent, lookupOf}
 use Rattle.state_area.proofs.Laws.{sensible-long}
-use Rattle.c_exports.specs.Calls.{lookupTold}
+use Rattle.c_told.specs.Told.{lookupTold}
+use Rattle.c_told.proofs.Laws.{answered, senseless}
 use borrow.Author.Needs.{needs}
 use Rattle.c_exports.proofs.nuvrisel_lookup.Statement.{statement}
 use Rattle.c_exports.proofs.nuvrisel_lookup.Tie as tie
@@ -21,8 +21,10 @@ same-length : tie.Need-same-length
 same-length c = search needs
 
 returns : tie.Need-returns
-returns c = c .before .before .tell .ensures ∙ rw (sym (c .before .before .before .before .before .is-sensible-area
-    .ensures) ∙ not-true _ (c .before .before .before .before .if1 .taken))
+returns c =
+    let e = c .before .before .before .before in
+    senseless _ _ _ _ (sym (e .before .is-sensible-area .ensures) ∙ not-true _ (e .if1 .taken))
+    (c .before .before .tell .ensures)
 
 load-requires : tie.Need-load-requires
 load-requires c κs = sensible-long _ (sym (c .before .is-sensible-area .ensures) ∙ not-false _ (c .if1 .left))
@@ -38,14 +40,13 @@ same-length-2 c = search needs
 
 returns-2 : tie.Need-returns-2
 returns-2 c =
-    let a = c .before .before .before .before .before .before .before .before .before .before .before .before
-    .before .before .args in
-    let m : Lent = lent (a .table .now) (a .keys .now) (a .lists .now) in
-    c .before .before .tell-lookup .ensures
-    ∙ ap (λ (x : Lookup). lookupTold x (a .told .now)) (c .before .before .before .before .lookup .ensures .0
-    ∙ ap (λ (s : State). lookupOf s m (a .name .now)) (c .before .before .before .before .before .load .ensures))
-    ∙ rw (sym (c .before .before .before .before .before .before .before .is-sensible-area .ensures)
-    ∙ not-false _ (c .before .before .before .before .before .before .if1 .left))
+    let l = c .before .before .before .before .before in
+    let e = l .before in
+    let a = e .before .before .before .before .before .before .before .before .args in
+    answered (λ (x : Lookup). lookupTold x (a .told .now))
+    (λ (s : State). lookupOf s (lent (a .table .now) (a .keys .now) (a .lists .now)) (a .name .now)) (a .state .now) _ _ _ _
+    (sym (e .before .is-sensible-area .ensures) ∙ not-false _ (e .if1 .left)) (c .before .before .tell-lookup .ensures)
+    (c .before .before .before .before .lookup .ensures .0) (l .load .ensures)
 
 pub nuvrisel-lookup-spec : {M : Type 1} → statement M
 nuvrisel-lookup-spec =

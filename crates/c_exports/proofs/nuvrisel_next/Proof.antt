@@ -1,12 +1,12 @@
 -- The store's answer, told. Assumes nothing.
-use mathlib.Core.Path.{sym, ap, _∙_}
-use mathlib.Core.List.{List}
+use mathlib.Core.Path.{sym, _∙_}
 use borrow.Author.Tests.{not-true, not-false}
 use Rattle.store.specs.declared.State.{State}
 use Rattle.store.specs.declared.Listed.{Listed}
-use Rattle.store.specs.Look.{Lent, lent, nextOf}
+use Rattle.store.specs.Look.{lent, nextOf}
 use Rattle.state_area.proofs.Laws.{sensible-long}
-use Rattle.c_exports.specs.Calls.{listedTold}
+use Rattle.c_told.specs.Told.{listedTold}
+use Rattle.c_told.proofs.Laws.{answered, senseless}
 use borrow.Author.Needs.{needs}
 use Rattle.c_exports.proofs.nuvrisel_next.Statement.{statement}
 use Rattle.c_exports.proofs.nuvrisel_next.Tie as tie
@@ -21,8 +21,10 @@ same-length : tie.Need-same-length
 same-length c = search needs
 
 returns : tie.Need-returns
-returns c = c .before .before .tell .ensures ∙ rw (sym (c .before .before .before .before .before .is-sensible-area
-    .ensures) ∙ not-true _ (c .before .before .before .before .if1 .taken))
+returns c =
+    let e = c .before .before .before .before in
+    senseless _ _ _ _ (sym (e .before .is-sensible-area .ensures) ∙ not-true _ (e .if1 .taken))
+    (c .before .before .tell .ensures)
 
 load-requires : tie.Need-load-requires
 load-requires c κs = sensible-long _ (sym (c .before .is-sensible-area .ensures) ∙ not-false _ (c .if1 .left))
@@ -38,14 +40,13 @@ same-length-2 c = search needs
 
 returns-2 : tie.Need-returns-2
 returns-2 c =
-    let a = c .before .before .before .before .before .before .before .before .before .before .before .before
-    .before .args in
-    let m : Lent = lent (a .table .now) (a .keys .now) (a .lists .now) in
-    c .before .before .tell-listed .ensures
-    ∙ ap (λ (x : Listed). listedTold x (a .told .now)) (c .before .before .before .before .next-occupied .ensures .0
-    ∙ ap (λ (s : State). nextOf s m (a .index)) (c .before .before .before .before .before .load .ensures))
-    ∙ rw (sym (c .before .before .before .before .before .before .before .is-sensible-area .ensures)
-    ∙ not-false _ (c .before .before .before .before .before .before .if1 .left))
+    let l = c .before .before .before .before .before in
+    let e = l .before in
+    let a = e .before .before .before .before .before .before .before .args in
+    answered (λ (x : Listed). listedTold x (a .told .now))
+    (λ (s : State). nextOf s (lent (a .table .now) (a .keys .now) (a .lists .now)) (a .index)) (a .state .now) _ _ _ _
+    (sym (e .before .is-sensible-area .ensures) ∙ not-false _ (e .if1 .left)) (c .before .before .tell-listed .ensures)
+    (c .before .before .before .before .next-occupied .ensures .0) (l .load .ensures)
 
 pub nuvrisel-next-spec : {M : Type 1} → statement M
 nuvrisel-next-spec =
