@@ -633,11 +633,12 @@ class Play {
 // Two stores, each played against a plain map, and joined; then with damage in one of them.
 class Halves {
   public:
-    explicit Halves(bool at_end) : m_(64, 1024, 2048, at_end), n_(128, 2048, 4096, at_end), scratch_(512, at_end) {}
+    explicit Halves(bool at_end) : m_(160, 600, 2048, at_end), n_(128, 2048, 4096, at_end), scratch_(512, at_end) {}
 
     void run(unsigned long long joins) {
         for (unsigned long long i = 0; i < joins; ++i, ++step) {
-            begin(m_, first_, 1 + chance(16), chance(24)), begin(n_, second_, 1 + chance(32), chance(32));
+            begin(m_, first_, chance(4) ? 64 : 1 + chance(16), chance(24));
+            begin(n_, second_, chance(4) ? 64 : 1 + chance(16), chance(32));
             kept_.note(n_);
             join();
             if (chance(2)) damaged();

@@ -1,8 +1,8 @@
 // The testbench's commands on the lent areas, as words and bytes from outside: lend, poke, dump, sum.
 //
 // It promises that each call ends and stays inside what is lent, whatever the line, the state and the memory are. It
-// uses spans, fastcpy, murmurhash2, memory_arena and store (for the state), text, say and bench_state.
-use store::State;
+// uses spans, fastcpy, murmurhash2, memory_arena and store_state (for the state), text, say and bench_state.
+use store_state::State;
 use text::fault;
 use text::words;
 use text::words::Taken;

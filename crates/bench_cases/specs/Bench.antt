@@ -1,4 +1,5 @@
--- Document 01, "Bench cases": P1 to P12, by one table and one statement. Each row has the values that the definitions give, and those of the paper.
+-- Document 01, "Bench cases": P1 to P12, by one table and one statement. Each row has the values that the definitions
+-- give, and those of the paper.
 use Prim.Native.Nat.{ℕ}
 use mathlib.Core.Path.{_≡_, refl}
 use mathlib.Core.Option.{Option, none, some}
@@ -12,21 +13,22 @@ use Rattle.vint.specs.Vint.{writeVint, vintBytes}
 use Rattle.memory_arena.specs.Address.{addressOf}
 use Rattle.shared_arena_hashmap.specs.Power.{roundedDown, grownLength}
 use Rattle.shared_arena_hashmap.specs.Probe.{startOf}
-use Rattle.expull.specs.Header.{fresh, headerBytes}
-use Rattle.expull.specs.Append.{Writing, writing, appended}
-use Rattle.store.specs.declared.Created.{Created}
-use Rattle.store.specs.declared.Created.the-variants.{Made, Barred}
-use Rattle.store.specs.declared.Appended.{Appended}
-use Rattle.store.specs.declared.Appended.the-variants.{Accepted, Declined}
-use Rattle.store.specs.Create.{createOf}
-use Rattle.store.specs.Look.{lent}
-use Rattle.store.specs.Append.{appendOf}
+use Rattle.expull_header.specs.Header.{fresh, headerBytes}
+use Rattle.expull_append.specs.Append.{Writing, writing, appended}
+use Rattle.store_create.specs.declared.Created.{Created}
+use Rattle.store_create.specs.declared.Created.the-variants.{Made, Barred}
+use Rattle.store_append.specs.declared.Appended.{Appended}
+use Rattle.store_append.specs.declared.Appended.the-variants.{Accepted, Declined}
+use Rattle.store_create.specs.Create.{createOf}
+use Rattle.store_look.specs.Look.{lent}
+use Rattle.store_append.specs.Append.{appendOf}
 
 -- nine bytes to a fresh list in an empty arena of 64 bytes: used, bytes 8 to 11, block number, head, tail, remaining
 abbrev pub ninth : Option Writing → List ℕ
 ninth none = []
 ninth (some w) =
-    w .arena .used ∷ (readSpan 8 4 (w .memory) ++ (w .header .number ∷ w .header .head ∷ w .header .tail ∷ w .header .remaining ∷ []))
+    w .arena .used ∷ (readSpan 8 4
+    (w .memory) ++ (w .header .number ∷ w .header .head ∷ w .header .tail ∷ w .header .remaining ∷ []))
 
 abbrev pub nine : List ℕ
 nine =

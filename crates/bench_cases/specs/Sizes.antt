@@ -10,10 +10,11 @@ use Rattle.memory_arena.specs.declared.Allocated.{Allocated}
 use Rattle.memory_arena.specs.declared.Allocated.the-variants.{At, NoRoom, Refused}
 use Rattle.memory_arena.specs.Address.{addressOf, pageOf, placeOf}
 use Rattle.memory_arena.specs.Calls.{allocateOf}
-use Rattle.store.specs.declared.State.{State}
-use Rattle.store.specs.Said.{saidCreated, saidLookup}
-use Rattle.store.specs.Create.{unused, createOf}
-use Rattle.store.specs.Look.{lent, lookupOf}
+use Rattle.store_state.specs.declared.State.{State}
+use Rattle.store_create.specs.Said.{saidCreated}
+use Rattle.store_look.specs.Said.{saidLookup}
+use Rattle.store_create.specs.Create.{unused, createOf}
+use Rattle.store_look.specs.Look.{lent, lookupOf}
 
 -- the longest name, the pages of the longest arena, its bytes; and page 3, place 5, put together and taken apart
 abbrev pub numbersFor : ℕ → List ℕ

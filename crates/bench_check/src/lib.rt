@@ -2,10 +2,10 @@
 //
 // It reads its words, makes the call with a part of the output as the mark area, and says what it answered and what the
 // area holds then. It promises that it ends and stays inside what is lent, whatever the line, the state and the memory
-// are; what the call answers, brownout promises. It uses memory_arena (the state's type), store, brownout_faults,
+// are; what the call answers, brownout promises. It uses memory_arena (the state's type), store_state, brownout_faults,
 // brownout, text and say.
 use brownout_faults::Checked;
-use store::State;
+use store_state::State;
 use text::fault;
 use text::words;
 

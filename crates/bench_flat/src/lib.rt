@@ -3,7 +3,7 @@
 //
 // Each reads its words, makes at most one call and says what it answered. It promises that it ends and stays inside
 // what is lent, whatever the line, the used count and the buffer are; what the call answers, flat_store promises. It
-// uses murmurhash2, flat_store, text, say and bench_areas.
+// uses numbers, murmurhash2, flat_store, text, say and bench_areas.
 use flat_store::Answer;
 use flat_store::Appended;
 use flat_store::Lookup;
@@ -215,7 +215,7 @@ pub fn play(
     if k == 101 {
         return set_used(f, line);
     }
-    let lent = text::least(f.lent, memory.len());
+    let lent = numbers::least(f.lent, memory.len());
     if k == 102 {
         return append(f, line, &mut memory[0..lent], name, output);
     }

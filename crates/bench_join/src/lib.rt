@@ -2,9 +2,9 @@
 //
 // It reads its word, makes one call and says what it answered. It promises that it ends and stays inside what is lent,
 // whatever the line, the states and the memory are; what the call answers, join promises. It uses memory_arena (the
-// state's type), murmurhash2, store, join, text and say.
+// state's type), murmurhash2, store_state, join, text and say.
 use join::Joined;
-use store::State;
+use store_state::State;
 use text::fault;
 use text::words;
 

@@ -1,10 +1,10 @@
 // The testbench's commands on one store: the command of a number, by the library that has it.
 //
 // It promises that each command ends and stays inside what is lent, whatever the line, the state and the memory are;
-// what the calls answer, the crates below promise. It uses the libraries of the commands, and memory_arena and store
-// for the state.
+// what the calls answer, the crates below promise. It uses the libraries of the commands, and memory_arena and
+// store_state for the state.
 use bench_state::Played;
-use store::State;
+use store_state::State;
 
 // A command that leaves the state as it is, and is no call by name.
 fn play_other(

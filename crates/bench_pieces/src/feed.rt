@@ -83,7 +83,7 @@ fn feed_into(st: Pieces, piece: &[u8], last: bool, places: &mut [u32]) {
     let r = number_pieces::feed(st, piece, last, places);
     let stop = r.stop;
     let after = r.state;
-    let k = text::least(r.numbers, places.len());
+    let k = numbers::least(r.numbers, places.len());
     say_stop(stop, &places[0..k]);
     say_state(after);
     say_kept(&places[k..])

@@ -1,6 +1,6 @@
 // A lane's bytes behind a count.
 use lane_pieces::Pieced;
-use store::State;
+use store_state::State;
 use text::fault;
 use text::words;
 

@@ -1,15 +1,15 @@
 // The testbench's commands that read a store: lookup, length, read, block, show, next, count.
 //
 // Each reads its words, makes one call, says what it answered and gives back the walk that the last call by name told:
-// its own, or the one before where it makes none. It promises that it ends and stays inside what is
-// lent, whatever the line, the state and the memory are; what the call answers, store promises. It uses memory_arena
-// (the state's type), store, text and say.
-use store::Answer;
-use store::Counted;
-use store::Listed;
-use store::Lookup;
-use store::Outcome;
-use store::State;
+// its own, or the one before where it makes none. It promises that it ends and stays inside what is lent, whatever the
+// line, the state and the memory are; what the call answers, store promises. It uses memory_arena (the state's type),
+// store_state, store_look, text and say.
+use store_look::Answer;
+use store_look::Counted;
+use store_look::Listed;
+use store_look::Lookup;
+use store_look::Outcome;
+use store_state::State;
 use text::fault;
 use text::words;
 ghost use Prim.Native.Nat.{_≤_};
@@ -39,7 +39,7 @@ fn lookup(
         return walk;
     }
     let n = a.n;
-    let told = store::look::lookup(st, table, keys, lists, &name[0..n]);
+    let told = store_look::lane::lookup(st, table, keys, lists, &name[0..n]);
     let answer = told.answer;
     say_lookup(answer);
     told.walk
@@ -90,7 +90,7 @@ fn length(
         return walk;
     }
     let n = a.n;
-    let told = store::look::length(st, table, keys, lists, &name[0..n]);
+    let told = store_look::lane::length(st, table, keys, lists, &name[0..n]);
     let answer = told.answer;
     say_answer(answer);
     say::end();
@@ -115,7 +115,14 @@ fn block(
         return walk;
     }
     let n = a.n;
-    let told = store::look::find_block(st, table, keys, lists, &name[0..n], index.value as usize);
+    let told = store_look::lane::find_block(
+        st,
+        table,
+        keys,
+        lists,
+        &name[0..n],
+        index.value as usize,
+    );
     let answer = told.answer;
     say_answer(answer);
     say::end();
@@ -152,7 +159,7 @@ fn read_into(
     output: &mut [u8],
 ) -> usize {
     text::fill(output, 0xee);
-    let told = store::look::read(st, table, keys, lists, name, output);
+    let told = store_look::lane::read(st, table, keys, lists, name, output);
     let answer = told.answer;
     say_reading(answer, output);
     told.walk
@@ -188,7 +195,14 @@ fn show(st: State, line: &[u8], table: &[u32], keys: &[u8], lists: &[u8]) {
     if fault != 0 {
         return say::fault(fault);
     }
-    let shown = store::look::show_block(st, table, keys, lists, words::low_32(g.a), g.b as usize);
+    let shown = store_look::lane::show_block(
+        st,
+        table,
+        keys,
+        lists,
+        words::low_32(g.a),
+        g.b as usize,
+    );
     say::bytes_line(shown)
 }
 
@@ -209,12 +223,12 @@ fn next(st: State, line: &[u8], table: &[u32], keys: &[u8], lists: &[u8]) {
     if index.fault != 0 {
         return say::fault(index.fault);
     }
-    say_listed(store::look::next_occupied(st, table, keys, lists, index.value as usize))
+    say_listed(store_look::listing::next_occupied(st, table, keys, lists, index.value as usize))
 }
 
 // `count`
 fn count(st: State, table: &[u32], keys: &[u8], lists: &[u8]) {
-    let counted = store::look::key_count(st, table, keys, lists);
+    let counted = store_look::listing::key_count(st, table, keys, lists);
     match counted {
         Counted::Keys(n) => say::number(b"keys ", n as u64),
         Counted::Unknown(n) => say::refused(n),

@@ -1,11 +1,11 @@
 // The testbench's commands on lanes of readings: drift, readings.
 //
 // Each reads its words, makes one call and says what it answered. It promises that it ends and stays inside what is
-// lent, whatever the line, the state and the memory are; what the call answers, readings promises. It uses memory_arena
-// and store (for the state), signed, readings, text, say, bench_state and bench_write.
+// lent, whatever the line, the state and the memory are; what the call answers, readings promises. It uses numbers,
+// memory_arena, store_state and store_append (for the state), signed, readings, text, say, bench_state and bench_write.
 use bench_state::Played;
 use readings::Recalled;
-use store::State;
+use store_state::State;
 use text::fault;
 use text::words;
 use text::words::Number;
@@ -153,7 +153,7 @@ fn drift(
 
 // The readings at the output's front, and whether the places behind them are kept.
 fn say_given(n: u64, places: &[i32]) {
-    let k = text::least(n as usize, places.len());
+    let k = numbers::least(n as usize, places.len());
     say::told(b"readings ", n);
     say_readings(&places[0..k]);
     say_kept(&places[k..])

@@ -2,11 +2,11 @@
 //
 // Each reads its words, makes one call and says what it answered. It promises that it ends and stays inside what is
 // lent, whatever the line, the state and the memory are; what the call answers, report and report_read promise. It uses
-// memory_arena (the state's type), store, report, report_read, text and say.
+// numbers, memory_arena (the state's type), store_state, report, report_read, text and say.
 use report::Reported;
 use report_read::check::Checked;
 use report_read::pick::Picked;
-use store::State;
+use store_state::State;
 use text::fault;
 use text::words;
 
@@ -76,8 +76,8 @@ fn unreport(line: &[u8], name: &mut [u8]) {
 
 // A part of a text, which is hex already; `-` where it is empty.
 fn say_part(text: &[u8], from: usize, n: usize) {
-    let p = text::least(from, text.len());
-    let e = p + text::least(n, text.len() - p);
+    let p = numbers::least(from, text.len());
+    let e = p + numbers::least(n, text.len() - p);
     if n == 0 {
         return say::text(b"-");
     }

@@ -1,9 +1,9 @@
 // The testbench's commands on a store's state, as numbers from outside: state, set.
 //
 // It promises that each call ends and stays inside what is lent, whatever the line and the state are. It uses spans,
-// murmurhash2, memory_arena and store (for the state), text and say.
+// murmurhash2, memory_arena and store_state (for the state), text and say.
 use memory_arena::Arena;
-use store::State;
+use store_state::State;
 use text::fault;
 use text::words;
 ghost use Prim.Native.Nat.{_+_, _≤_};

@@ -2,12 +2,12 @@
 //
 // Each reads its words, makes one call, says what it answered and gives back the state. It promises that it ends and
 // stays inside what is lent, whatever the line, the state and the memory are; what the call answers, store promises. It
-// uses limits, memory_arena and store (for the state), text, say and bench_state.
+// uses limits, memory_arena, store_state, store_create and store_append (for the state), text, say and bench_state.
 use bench_state::Played;
-use store::Appended;
-use store::Created;
-use store::State;
-use store::ToldAppend;
+use store_append::Appended;
+use store_append::ToldAppend;
+use store_create::Created;
+use store_state::State;
 use text::fault;
 use text::words;
 
@@ -35,7 +35,7 @@ fn create(st: State, line: &[u8], table: &mut [u32], keys: &[u8], lists: &[u8]) 
         return st;
     }
     let seed = words::low_32(g.b);
-    let made = store::create::create(g.a as usize, seed, size.value as usize, table, keys, lists);
+    let made = store_create::create(g.a as usize, seed, size.value as usize, table, keys, lists);
     say_created(made, st)
 }
 
@@ -71,7 +71,7 @@ fn append_to(
     name: &[u8],
     bytes: &[u8],
 ) -> Played {
-    let told = store::write::append(st, table, keys, lists, name, bytes);
+    let told = store_append::append(st, table, keys, lists, name, bytes);
     say_appended(told)
 }
 

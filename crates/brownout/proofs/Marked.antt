@@ -15,13 +15,14 @@ use borrow.Author.Tests.{eqb-true, eqb-false, lt-ltb, le-ltb, ltb-true}
 use Rattle.numbers.proofs.Tests.{both, both-true, left-false, right-false, same-test, not-both}
 use Rattle.marks.specs.Bits.{Out as Marks·Out, marked, markSpan}
 use Rattle.marks.proofs.Laws.{Spread, span-spreads, span-met, span-length, clear-unmarked}
-use Rattle.shared_arena_hashmap.proofs.Laws.{power-facts, good-record-in}
-use Rattle.expull.specs.declared.Header.{Header}
-use Rattle.expull.specs.Header.{blockCount}
-use Rattle.expull.proofs.Laws.Blocks.{block-good, block-in}
-use Rattle.store.specs.declared.State.{State}
-use Rattle.store.specs.Look.{Lent, checked}
-use Rattle.store.proofs.Whole.{Whole, whole-facts}
+use Rattle.records.proofs.Laws.{good-record-in}
+use Rattle.shared_arena_hashmap.proofs.Laws.{power-facts}
+use Rattle.expull_header.specs.declared.Header.{Header}
+use Rattle.expull_header.specs.Header.{blockCount}
+use Rattle.expull_walk.proofs.Laws.{block-good, block-in}
+use Rattle.store_state.specs.declared.State.{State}
+use Rattle.store_look.specs.Look.{Lent, checked}
+use Rattle.store_state.proofs.Whole.{Whole, whole-facts}
 use Rattle.brownout_faults.specs.declared.Checked.the-variants.{Faulty}
 use Rattle.brownout_faults.specs.Check.{vacant, recordIn, headerIn, blockIn, blockWide, overlap, recordWide, recordMet}
 use Rattle.brownout_faults.specs.Check.{blockMet, laneMet, blocksMeet, overlapsIn, faultIn, entries, verdictFrom}

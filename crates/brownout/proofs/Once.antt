@@ -15,8 +15,8 @@ use Rattle.fastcmp.specs.Equal.{equalBytes}
 use Rattle.fastcmp.proofs.Laws.{equal-true, equal-same}
 use Rattle.shared_arena_hashmap.specs.declared.Met.{Met}
 use Rattle.shared_arena_hashmap.specs.declared.Met.the-variants.{Empty, Standing, Damaged, Lap}
-use Rattle.store.specs.declared.State.{State}
-use Rattle.store.specs.Look.{Lent, walkOf, inOrder}
+use Rattle.store_state.specs.declared.State.{State}
+use Rattle.store_look.specs.Look.{Lent, walkOf, inOrder}
 use Rattle.brownout_faults.specs.Check.{vacant, recordIn, nameIn, headerIn, goodIn, nameAmong, foundMet}
 use Rattle.brownout_faults.specs.Check.{foundIn, headerGood, blocksGood, tailGood, overlapsIn, faultIn}
 use Rattle.brownout.specs.Code.{bucketOf, listJudged, judged}

@@ -20,20 +20,22 @@ use Rattle.memory_arena.specs.declared.Arena.{Arena}
 use Rattle.memory_arena.specs.Calls.{sensible}
 use Rattle.memory_arena.proofs.Laws.{sensible-short}
 use Rattle.shared_arena_hashmap.specs.declared.Walk.{Walk}
-use Rattle.shared_arena_hashmap.specs.Probe.{keyLength, keyAt, goodRecord, valuePlace, lookup}
-use Rattle.shared_arena_hashmap.proofs.Laws.{power-facts, lookup-looked, good-record-in}
-use Rattle.expull.specs.declared.Header.{Header}
-use Rattle.expull.specs.declared.Block.{Block}
-use Rattle.expull.specs.declared.Block.the-variants.{BlockAt}
-use Rattle.expull.specs.Header.{blockSize, blockCount, soundHeader}
-use Rattle.expull.specs.Blocks.{blockPlace, goodBlocks, blockLength, blockOf}
-use Rattle.expull.proofs.Block.{the-type}
-use Rattle.expull.proofs.Laws.Header.{sound-facts}
-use Rattle.expull.proofs.Laws.Blocks.{place-more, block-good, block-in}
-use Rattle.store.specs.declared.State.{State}
-use Rattle.store.specs.State.{firstOf}
-use Rattle.store.specs.Look.{Lent, checked, walkOf, headerOf, headerSound}
-use Rattle.store.proofs.Whole.{Whole, whole-facts, first-in, taken-facts, buckets-few}
+use Rattle.records.specs.Record.{keyLength, keyAt, goodRecord, valuePlace, headerOf, headerSound}
+use Rattle.shared_arena_hashmap.specs.Probe.{lookup}
+use Rattle.records.proofs.Laws.{good-record-in}
+use Rattle.shared_arena_hashmap.proofs.Laws.{power-facts, lookup-looked}
+use Rattle.expull_header.specs.declared.Header.{Header}
+use Rattle.expull_walk.specs.declared.Block.{Block}
+use Rattle.expull_walk.specs.declared.Block.the-variants.{BlockAt}
+use Rattle.expull_header.specs.Header.{blockSize, blockCount, soundHeader}
+use Rattle.expull_walk.specs.Blocks.{blockPlace, goodBlocks, blockLength, blockOf}
+use Rattle.expull_walk.proofs.Block.{the-type}
+use Rattle.expull_header.proofs.Laws.{sound-facts}
+use Rattle.expull_walk.proofs.Laws.{place-more, block-good, block-in}
+use Rattle.store_state.specs.declared.State.{State}
+use Rattle.store_state.specs.State.{firstOf}
+use Rattle.store_look.specs.Look.{Lent, checked, walkOf}
+use Rattle.store_state.proofs.Whole.{Whole, whole-facts, first-in, taken-facts, buckets-few}
 use Rattle.brownout_faults.specs.declared.Checked.{Checked}
 use Rattle.brownout_faults.specs.declared.Checked.the-variants.{Sound, Faulty, Miscounted, Refused}
 use Rattle.brownout_faults.specs.Check.{vacant, recordIn, headerIn, foundMet, blockIn, tailGood, faultIn, entries}

@@ -10,13 +10,13 @@ use Rattle.limits.specs.Limits.{arenaLimit, recordExtra, linkSize}
 use Rattle.marks.specs.Bits.{Out as Marks·Out, out as marks·out, markSpan}
 use Rattle.memory_arena.specs.declared.Arena.{Arena}
 use Rattle.memory_arena.specs.Calls.{sensible}
-use Rattle.shared_arena_hashmap.specs.Probe.{keyLength, keyAt, goodRecord}
-use Rattle.expull.specs.declared.Header.{Header}
-use Rattle.expull.specs.Header.{blockSize, blockCount, soundHeader}
-use Rattle.expull.specs.Blocks.{blockPlace, goodBlocks}
+use Rattle.records.specs.Record.{keyLength, keyAt, goodRecord, headerOf, headerSound}
+use Rattle.expull_header.specs.declared.Header.{Header}
+use Rattle.expull_header.specs.Header.{blockSize, blockCount, soundHeader}
+use Rattle.expull_walk.specs.Blocks.{blockPlace, goodBlocks}
 use Rattle.murmurhash2.specs.Murmur.{murmurHash2}
-use Rattle.store.specs.declared.State.{State}
-use Rattle.store.specs.Look.{Lent, walkOf, headerOf, headerSound, inOrder}
+use Rattle.store_state.specs.declared.State.{State}
+use Rattle.store_look.specs.Look.{Lent, walkOf, inOrder}
 use Rattle.brownout_faults.specs.declared.Checked.the-variants.{Sound, Faulty, Miscounted}
 use Rattle.brownout_faults.specs.Check.{vacant, recordIn, headerIn, foundMet, tailGood, Out, out}
 

@@ -7,12 +7,12 @@
 // byte met; specs/Code.antt says so, and proofs/ that both are one. A chain is walked by its count, so one that comes
 // back to itself ends too. It uses brownout_faults, marks and the store's inner calls.
 use brownout_faults::Checked;
-use expull::Block;
-use expull::Header;
+use expull_header::Header;
+use expull_walk::Block;
 use memory_arena::Arena;
+use records::Head;
 use shared_arena_hashmap::Met;
-use store::Head;
-use store::State;
+use store_state::State;
 ghost use mathlib.Core.Path.{_≡_};
 ghost use mathlib.Core.Bool.{true};
 ghost use Prim.Native.Nat.{_+_, _*_, _^_, _≤_, _<_};
@@ -21,9 +21,9 @@ ghost use Rattle.limits.specs.Limits.{numberLimit};
 ghost use Rattle.limits.specs.Refusals.{checking, permitted};
 ghost use Rattle.marks.specs.Bits.{out as marks·out};
 ghost use Rattle.memory_arena.specs.Calls.{sensible};
-ghost use Rattle.expull.specs.Header.{soundHeader, blockCount};
-ghost use Rattle.expull.specs.Blocks.{goodBlocks};
-ghost use Rattle.store.specs.Look.{lent, checked};
+ghost use Rattle.expull_header.specs.Header.{soundHeader, blockCount};
+ghost use Rattle.expull_walk.specs.Blocks.{goodBlocks};
+ghost use Rattle.store_look.specs.Look.{lent, checked};
 ghost use Rattle.brownout_faults.specs.Check.{foundMet, tailGood, out, checkOf};
 ghost use Rattle.brownout_faults.specs.Said.{saidChecked};
 ghost use Rattle.brownout.specs.Code.{bucketOf, listJudged, judged, markBlocks, step, laneMarked, Markable};
@@ -48,7 +48,7 @@ fn find_bucket(st: State, table: &[u32], keys: &[u8], lists: &[u8], name: &[u8])
         ≡ bucketOf st (lent (now (table .entry)) (now (keys .entry)) (now (lists .entry))) (now (name .entry)) ⌝ }
 {
     let buckets = st.buckets;
-    let w = store::walk(st, table, keys, lists, name);
+    let w = store_look::walk(st, table, keys, lists, name);
     let met = w.met;
     if !is_found(met, name.len()) {
         return buckets;
@@ -67,7 +67,7 @@ fn is_tail_good(table: &[u32], keys: &[u8], lists: &[u8], arena: Arena, h: Heade
         return true;
     }
     let last = (h.number - 3) as usize;
-    let found = expull::walk::find_block(lists, arena, h, last);
+    let found = expull_walk::find_block(lists, arena, h, last);
     let Block::BlockAt(at, n) = found else {
         return false;
     };
@@ -81,7 +81,7 @@ fn judge_list(st: State, table: &[u32], keys: &[u8], lists: &[u8], h: Header) ->
     ensures { λ r. ⌜ r ≡ listJudged st (lent (now (table .entry)) (now (keys .entry)) (now (lists .entry))) h ⌝ }
 {
     let arena = st.list_arena;
-    if !expull::walk::are_good_blocks(lists, arena, h.head, h.number - 2) {
+    if !expull_walk::are_good_blocks(lists, arena, h.head, h.number - 2) {
         return 5;
     }
     if is_tail_good(table, keys, lists, arena, h) {
@@ -96,10 +96,10 @@ fn judge(st: State, table: &[u32], keys: &[u8], lists: &[u8], i: usize, at: u32)
     ensures { λ r. ⌜ r ≡ judged st (lent (now (table .entry)) (now (keys .entry)) (now (lists .entry))) i at ⌝ }
 {
     let arena = st.key_arena;
-    if !shared_arena_hashmap::is_good_record(keys, arena, at) {
+    if !records::is_good_record(keys, arena, at) {
         return 1;
     }
-    let n = shared_arena_hashmap::key_length(keys, at);
+    let n = records::key_length(keys, at);
     let from = (at as usize) + 2;
     let to = from + n;
     let name = &keys[from..to];
@@ -110,7 +110,7 @@ fn judge(st: State, table: &[u32], keys: &[u8], lists: &[u8], i: usize, at: u32)
     if b != i {
         return 3;
     }
-    let head = store::get_head(keys, at);
+    let head = records::get_head(keys, at);
     let Head::Sound(h) = head else {
         return 4;
     };
@@ -135,7 +135,7 @@ fn mark_blocks(
     let mut place = head;
     let mut k = 0;
     while k < count {
-        let size = expull::headers::get_block_size(k + 3) as usize;
+        let size = expull_header::get_block_size(k + 3) as usize;
         let at = place as usize;
         let met = marks::mark_span(marks, base + at, size + 4);
         if met {
@@ -161,7 +161,7 @@ fn mark_lane(
     ensures { λ r. ⌜ step r (now (marks .exit))
         ≡ laneMarked (lent (now (table .entry)) (now (keys .entry)) (now (lists .entry))) at h (now (marks .entry)) ⌝ }
 {
-    let n = shared_arena_hashmap::key_length(keys, at);
+    let n = records::key_length(keys, at);
     let from = at as usize;
     let met = marks::mark_span(marks, from, n + limits::RECORD_EXTRA);
     if met {
@@ -183,7 +183,7 @@ fn look_over(st: State, table: &[u32], keys: &[u8], lists: &[u8], marks: &mut [u
         ≡ lookedOver st (lent (now (table .entry)) (now (keys .entry)) (now (lists .entry))) i (now (marks .entry)) ⌝ }
 {
     let arena = st.list_arena;
-    let first = store::first_bucket(st);
+    let first = store_state::first_bucket(st);
     let w = 2 * (first + i);
     let at = table[w];
     if at == limits::NULL {
@@ -193,7 +193,7 @@ fn look_over(st: State, table: &[u32], keys: &[u8], lists: &[u8], marks: &mut [u
     if fault != 0 {
         return fault;
     }
-    let head = store::get_head(keys, at);
+    let head = records::get_head(keys, at);
     let Head::Sound(h) = head else {
         return 4;
     };
@@ -206,7 +206,7 @@ fn count_on(st: State, table: &[u32], keys: &[u8], lists: &[u8], i: usize, count
     ensures { λ r. ⌜ (r ≡ countedOn st (lent (now (table .entry)) (now (keys .entry)) (now (lists .entry))) i count)
         × (r ≤ i + 1) ⌝ }
 {
-    let first = store::first_bucket(st);
+    let first = store_state::first_bucket(st);
     let w = 2 * (first + i);
     let at = table[w];
     if at == limits::NULL {
@@ -246,7 +246,7 @@ pub fn check(st: State, table: &[u32], keys: &[u8], lists: &[u8], marks: &mut [u
         ≡ checkOf st (lent (now (table .entry)) (now (keys .entry)) (now (lists .entry))) (now (marks .entry)) ⌝ }
     ensures numbered { λ r. ⌜ permitted checking (saidChecked r) ≡ true ⌝ }
 {
-    if !store::check::is_whole_state(st, table.len(), keys.len(), lists.len()) {
+    if !store_state::is_whole_state(st, table.len(), keys.len(), lists.len()) {
         return Checked::Refused(2, 0);
     }
     let needed = (keys.len() + lists.len() + 7) / 8;

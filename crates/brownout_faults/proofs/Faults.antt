@@ -8,8 +8,8 @@ use native.Mathlib.Omega.{arith}
 use native.Mathlib.Decide.{ℕ-discrete}
 use lib.Dec.{eqb}
 use borrow.Author.Tests.{eqb-true, eqb-false, eq-eqb}
-use Rattle.store.specs.declared.State.{State}
-use Rattle.store.specs.Look.{Lent}
+use Rattle.store_state.specs.declared.State.{State}
+use Rattle.store_look.specs.Look.{Lent}
 use Rattle.brownout_faults.specs.declared.Checked.{Checked}
 use Rattle.brownout_faults.specs.declared.Checked.the-variants.{Sound, Faulty, Miscounted}
 use Rattle.brownout_faults.specs.Check.{vacant, nameIn, headerIn, goodIn, nameAmong, foundIn, headerGood}

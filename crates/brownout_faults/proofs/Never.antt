@@ -20,31 +20,32 @@ use Rattle.shared_arena_hashmap.specs.declared.Met.{Met}
 use Rattle.shared_arena_hashmap.specs.declared.Met.the-variants.{Empty, Standing, Damaged, Lap}
 use Rattle.shared_arena_hashmap.specs.declared.Next.the-variants.{Occupied}
 use Rattle.shared_arena_hashmap.specs.Buckets.{addressAt}
-use Rattle.shared_arena_hashmap.specs.Probe.{valuePlace, occupiedFrom}
+use Rattle.records.specs.Record.{valuePlace, headerOf, headerSound}
+use Rattle.shared_arena_hashmap.specs.Probe.{occupiedFrom}
 use Rattle.shared_arena_hashmap.proofs.Laws.{power-facts}
-use Rattle.expull.specs.declared.Header.{Header}
-use Rattle.expull.specs.declared.Block.the-variants.{BlockAt, NoBlock, BadBlock}
-use Rattle.expull.specs.Header.{fresh, blockSize, blockCount, laneLength, endBytesAt}
-use Rattle.expull.specs.Append.{Writing, writing, appended, goodTail}
-use Rattle.expull.specs.Blocks.{blockPlace, goodBlocks, blockOf}
-use Rattle.expull.proofs.Laws.Header.{SoundHeader, sound-facts}
+use Rattle.expull_header.specs.declared.Header.{Header}
+use Rattle.expull_walk.specs.declared.Block.the-variants.{BlockAt, NoBlock, BadBlock}
+use Rattle.expull_header.specs.Header.{fresh, blockSize, blockCount, laneLength, endBytesAt}
+use Rattle.expull_append.specs.Append.{Writing, writing, appended, goodTail}
+use Rattle.expull_walk.specs.Blocks.{blockPlace, goodBlocks, blockOf}
+use Rattle.expull_header.proofs.Laws.{SoundHeader, sound-facts}
 use Rattle.history_lanes.proofs.Blocks.{placed-within}
-use Rattle.store.specs.declared.State.{State}
-use Rattle.store.specs.declared.Lookup.{Lookup}
-use Rattle.store.specs.declared.Lookup.the-variants.{At, Missing, Failed}
-use Rattle.store.specs.declared.Answer.the-variants.{Found, Refused}
-use Rattle.store.specs.declared.Name.{Name}
-use Rattle.store.specs.declared.Name.the-variants.{TooLong, Nameless, Proper}
-use Rattle.store.specs.Said.{saidLookup, saidAnswer, saidListed, saidAppended}
-use Rattle.store.specs.State.{firstOf}
-use Rattle.store.specs.Name.{nameKind, byKind}
-use Rattle.store.specs.Look.{Lent, checked, walkOf, lookupOf, onLookup, onLookupRead, headerOf, headerSound, lengthAt}
-use Rattle.store.specs.Look.{lengthOf, reading, blocksSound, readAt, readOf, onBlock, blockAt, findBlockOf, onNext}
-use Rattle.store.specs.Look.{nextOf}
-use Rattle.store.specs.Look.{onMet as Look·onMet}
-use Rattle.store.specs.Append.{Out, declined, isSaturated, isCrowded, standingWritten, appendStanding, newWritten}
-use Rattle.store.specs.Append.{onKeyRoom, appendNew, onMet, appendOf}
-use Rattle.store.proofs.Whole.{Whole, whole-facts}
+use Rattle.store_state.specs.declared.State.{State}
+use Rattle.store_look.specs.declared.Lookup.{Lookup}
+use Rattle.store_look.specs.declared.Lookup.the-variants.{At, Missing, Failed}
+use Rattle.store_look.specs.declared.Answer.the-variants.{Found, Refused}
+use Rattle.store_state.specs.declared.Name.{Name}
+use Rattle.store_state.specs.declared.Name.the-variants.{TooLong, Nameless, Proper}
+use Rattle.store_look.specs.Said.{saidLookup, saidAnswer, saidListed}
+use Rattle.store_append.specs.Said.{saidAppended}
+use Rattle.store_state.specs.State.{firstOf}
+use Rattle.store_state.specs.Name.{nameKind, byKind}
+use Rattle.store_look.specs.Look.{Lent, checked, walkOf, lookupOf, onLookup, onLookupRead, lengthAt, lengthOf, reading}
+use Rattle.store_look.specs.Look.{blocksSound, readAt, readOf, onBlock, blockAt, findBlockOf, onNext, nextOf}
+use Rattle.store_look.specs.Look.{onMet as Look·onMet}
+use Rattle.store_append.specs.Append.{Out, declined, isSaturated, isCrowded, standingWritten, appendStanding}
+use Rattle.store_append.specs.Append.{newWritten, onKeyRoom, appendNew, onMet, appendOf}
+use Rattle.store_state.proofs.Whole.{Whole, whole-facts}
 use Rattle.brownout_faults.specs.Check.{vacant, recordIn, goodIn, tailGood, blockIn}
 use Rattle.brownout_faults.specs.Promises.{NoDamage, Faultless}
 use Rattle.brownout_faults.proofs.Faults.{Clean, clean-facts}
@@ -145,7 +146,7 @@ module _ (st : State) (m : Lent) (W : checked st m ≡ true) (F : Faultless st m
   never-read name output = go (lookupOf st m name) (looks name (lookupOf st m name) refl)
     where
       fits : (x : ℕ) (b : Bool) (o : List ℕ)
-          → numberIn (saidAnswer (cond b (reading (Found (Rattle.store.specs.declared.Outcome.the-variants.Reading
+          → numberIn (saidAnswer (cond b (reading (Found (Rattle.store_look.specs.declared.Outcome.the-variants.Reading
           (laneLength (headerOf (m .keys) x)))) o)
           (reading (Refused 8 (laneLength (headerOf (m .keys) x))) output) .answer)) ≡ 4 → ⊥
       fits x true o = λ z. omega arith
@@ -166,7 +167,7 @@ module _ (st : State) (m : Lent) (W : checked st m ≡ true) (F : Faultless st m
           → numberIn (saidAnswer (onBlock (cond b NoBlock
           (cond (goodBlocks (st .«list_arena») (m .lists) (headerOf (m .keys) x .head) (i + 1))
           (BlockAt (blockPlace (m .lists) (headerOf (m .keys) x .head) i)
-          (Rattle.expull.specs.Blocks.blockLength (headerOf (m .keys) x) i)) BadBlock)))) ≡ 4 → ⊥
+          (Rattle.expull_walk.specs.Blocks.blockLength (headerOf (m .keys) x) i)) BadBlock)))) ≡ 4 → ⊥
       found x K true q = λ z. omega arith
       found x K false q =
           rw (good-fewer (st .«list_arena») (m .lists) (headerOf (m .keys) x .head) (i + 1)

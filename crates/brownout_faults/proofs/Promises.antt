@@ -10,12 +10,11 @@ use lib.ListN.{length, replicate}
 use borrow.Author.Tests.{le-leb}
 use Rattle.limits.specs.Refusals.{one-outcome}
 use Rattle.numbers.proofs.Tests.{not-both}
-use Rattle.store.specs.declared.State.{State}
-use Rattle.store.specs.Look.{Lent, checked}
+use Rattle.store_state.specs.declared.State.{State}
+use Rattle.store_look.specs.Look.{Lent, checked}
 use Rattle.brownout_faults.specs.declared.Checked.{Checked}
 use Rattle.brownout_faults.specs.declared.Checked.the-variants.{Sound, Faulty, Miscounted, Refused}
-use Rattle.brownout_faults.specs.Check.{verdictFrom, verdictOf, marksNeeded, Out, out, checkOf}
-use Rattle.brownout_faults.specs.Check.{faultIn, entries}
+use Rattle.brownout_faults.specs.Check.{verdictFrom, verdictOf, marksNeeded, Out, out, checkOf, faultIn, entries}
 use Rattle.brownout_faults.specs.Promises.{NoDamage, FirstFault, Faultless, Promises}
 use Rattle.brownout_faults.proofs.Faults.{verdict-faultless, faultless-verdict, verdict-first}
 use Rattle.brownout_faults.proofs.Faults.{verdict-miscounted}

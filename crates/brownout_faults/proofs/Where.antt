@@ -20,14 +20,14 @@ use Rattle.shared_arena_hashmap.specs.declared.Seen.the-variants.{Nothing, Same
 use Rattle.shared_arena_hashmap.specs.declared.Met.the-variants.{Standing, Damaged, Lap}
 use Rattle.shared_arena_hashmap.specs.declared.Walk.{Walk}
 use Rattle.shared_arena_hashmap.specs.Buckets.{addressAt, hashAt, emptyAt}
-use Rattle.shared_arena_hashmap.specs.Probe.{keyAt, goodRecord, seenRecord, seenAt, startOf, nextBucket, onSeen, probe}
-use Rattle.shared_arena_hashmap.specs.Probe.{lookup}
+use Rattle.records.specs.Record.{keyAt, goodRecord}
+use Rattle.shared_arena_hashmap.specs.Probe.{seenRecord, seenAt, startOf, nextBucket, onSeen, probe, lookup}
 use Rattle.history_names.specs.Table.{Names, nameAt, Taken, occupied, Reached}
 use Rattle.shared_arena_hashmap.proofs.Room.{next-mod, next-below, start-below}
 use Rattle.history_names.proofs.Walk.{AllTaken, taken-count}
-use Rattle.store.specs.declared.State.{State}
-use Rattle.store.specs.State.{firstOf}
-use Rattle.store.specs.Look.{Lent, walkOf, inOrder}
+use Rattle.store_state.specs.declared.State.{State}
+use Rattle.store_state.specs.State.{firstOf}
+use Rattle.store_look.specs.Look.{Lent, walkOf, inOrder}
 use Rattle.brownout_faults.specs.Check.{vacant, recordIn, nameIn, goodIn, entries}
 
 -- ---- a walk, on any memory

@@ -6,10 +6,10 @@ use mathlib.Core.Bool.{false}
 use mathlib.Core.List.{List, [], _∷_, _++_}
 use lib.ListN.{length, replicate}
 use Rattle.limits.specs.Refusals.{Said, answered, refused, sound, aFault, wrongCount}
-use Rattle.expull.specs.declared.Header.{Header}
-use Rattle.store.specs.declared.State.{State}
-use Rattle.store.specs.Look.{lent}
-use Rattle.store.specs.Append.{recordBytes}
+use Rattle.expull_header.specs.declared.Header.{Header}
+use Rattle.store_state.specs.declared.State.{State}
+use Rattle.store_look.specs.Look.{lent}
+use Rattle.records.specs.Record.{recordBytes}
 use Rattle.brownout_faults.specs.Check.{Out, checkOf}
 use Rattle.brownout_faults.specs.Said.{saidChecked}
 

@@ -12,13 +12,13 @@ use Rattle.murmurhash2.specs.Murmur.{murmurHash2}
 use Rattle.shared_arena_hashmap.specs.declared.Met.{Met}
 use Rattle.shared_arena_hashmap.specs.declared.Met.the-variants.{Empty, Standing, Damaged, Lap}
 use Rattle.shared_arena_hashmap.specs.Buckets.{addressAt, emptyAt}
-use Rattle.shared_arena_hashmap.specs.Probe.{keyLength, keyAt, goodRecord}
-use Rattle.expull.specs.declared.Header.{Header}
-use Rattle.expull.specs.Header.{blockSize, blockCount}
-use Rattle.expull.specs.Blocks.{blockPlace, goodBlocks}
-use Rattle.store.specs.declared.State.{State}
-use Rattle.store.specs.State.{wholeState, firstOf}
-use Rattle.store.specs.Look.{Lent, checked, walkOf, headerOf, headerSound, inOrder}
+use Rattle.records.specs.Record.{keyLength, keyAt, goodRecord, headerOf, headerSound}
+use Rattle.expull_header.specs.declared.Header.{Header}
+use Rattle.expull_header.specs.Header.{blockSize, blockCount}
+use Rattle.expull_walk.specs.Blocks.{blockPlace, goodBlocks}
+use Rattle.store_state.specs.declared.State.{State}
+use Rattle.store_state.specs.State.{wholeState, firstOf}
+use Rattle.store_look.specs.Look.{Lent, checked, walkOf, inOrder}
 use Rattle.brownout_faults.specs.declared.Checked.{Checked}
 use Rattle.brownout_faults.specs.declared.Checked.the-variants.{Sound, Faulty, Miscounted, Refused}
 

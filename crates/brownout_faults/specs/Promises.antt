@@ -7,10 +7,11 @@ use mathlib.Core.List.{List}
 use lib.Dec.{leb}
 use lib.ListN.{length, replicate}
 use Rattle.limits.specs.Refusals.{numberIn}
-use Rattle.store.specs.declared.State.{State}
-use Rattle.store.specs.Said.{saidLookup, saidAnswer, saidListed, saidAppended}
-use Rattle.store.specs.Look.{Lent, lookupOf, lengthOf, readOf, findBlockOf, nextOf}
-use Rattle.store.specs.Append.{appendOf}
+use Rattle.store_state.specs.declared.State.{State}
+use Rattle.store_look.specs.Said.{saidLookup, saidAnswer, saidListed}
+use Rattle.store_append.specs.Said.{saidAppended}
+use Rattle.store_look.specs.Look.{Lent, lookupOf, lengthOf, readOf, findBlockOf, nextOf}
+use Rattle.store_append.specs.Append.{appendOf}
 use Rattle.brownout_faults.specs.declared.Checked.the-variants.{Sound, Faulty, Miscounted, Refused}
 use Rattle.brownout_faults.specs.Check.{faultIn, entries, verdictOf, marksNeeded, Out, out, checkOf}
 

@@ -2,7 +2,7 @@
 -- paper's list.
 use mathlib.Core.List.{[], _∷_}
 use Rattle.limits.specs.Refusals.{Said, answered, refused, sound, aFault, wrongCount}
-use Rattle.store.specs.Said.{toldWith}
+use Rattle.store_look.specs.Said.{toldWith}
 use Rattle.brownout_faults.specs.declared.Checked.{Checked}
 use Rattle.brownout_faults.specs.declared.Checked.the-variants.{Sound, Faulty, Miscounted, Refused}
 

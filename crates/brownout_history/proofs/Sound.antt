@@ -7,7 +7,7 @@ use lib.ListN.{length, replicate}
 use borrow.Author.Tests.{le-leb, lt-leb}
 use Rattle.memory_arena.specs.declared.Arena.{Arena}
 use Rattle.shared_arena_hashmap.specs.Power.{roundedDown}
-use Rattle.expull.specs.declared.Header.{Header}
+use Rattle.expull_header.specs.declared.Header.{Header}
 use Rattle.history_lanes.specs.Lane.{wideOn, Stack, Tip, Lane}
 use Rattle.history_lanes.proofs.Blocks.{clear-above}
 use Rattle.history.specs.History.{World, Call, Born, play}

@@ -5,7 +5,7 @@ use mathlib.Core.List.{List, [], _∷_}
 use native.Mathlib.Omega.{arith}
 use Rattle.limits.specs.Limits.{linkSize}
 use Rattle.memory_arena.specs.declared.Arena.{Arena}
-use Rattle.expull.specs.declared.Header.{Header}
+use Rattle.expull_header.specs.declared.Header.{Header}
 use Rattle.history_lanes.specs.Lane.{sizeOn, wideOn, LinkTo, Links, Below, Paged, usedEnd}
 use Rattle.history_lanes.proofs.Blocks.{clear-within, below-up}
 use Rattle.history.specs.Sound.{BlocksApart}

@@ -22,11 +22,11 @@ use Rattle.memory_arena.specs.declared.Allocated.the-variants.{At, NoRoom, Refu
 use Rattle.memory_arena.specs.Address.{placeOf}
 use Rattle.memory_arena.specs.Pages.{standing, roomFor}
 use Rattle.memory_arena.proofs.Laws.{place-of, standing-facts, standing-made, Room, room-size, room-facts}
-use Rattle.expull.specs.declared.Header.{Header}
-use Rattle.expull.specs.Header.{blockSize, fresh}
-use Rattle.expull.specs.Append.{Writing, writing, nextWide, headWith, linked, headerWith, withBlock, onRoom}
-use Rattle.expull.specs.Append.{takeBlock, ready, moved, filled, andThen, appended}
-use Rattle.expull.proofs.Laws.Header.{size-pos}
+use Rattle.expull_header.specs.declared.Header.{Header}
+use Rattle.expull_header.specs.Header.{blockSize, fresh}
+use Rattle.expull_append.specs.Append.{Writing, writing, nextWide, headWith, linked, headerWith, withBlock, onRoom}
+use Rattle.expull_append.specs.Append.{takeBlock, ready, moved, filled, andThen, appended}
+use Rattle.expull_header.proofs.Laws.{size-pos}
 use Rattle.history_lanes.specs.Lane.{sizeOn, wideOn, Paged, Clear, usedEnd}
 use Rattle.history_lanes.proofs.Blocks.{apart-within, apart-sym, clear-within, clear-above, below-up}
 use Rattle.history_lanes.proofs.Blocks.{link-to-kept, links-kept}

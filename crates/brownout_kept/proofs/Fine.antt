@@ -17,14 +17,14 @@ use Rattle.fastcmp.proofs.Laws.{equal-not}
 use Rattle.spans.specs.Span.{Apart}
 use Rattle.spans.proofs.Laws.{length-span}
 use Rattle.shared_arena_hashmap.specs.declared.Met.the-variants.{Standing}
-use Rattle.shared_arena_hashmap.specs.Probe.{keyLength, keyAt}
-use Rattle.shared_arena_hashmap.proofs.Laws.{good-record-in}
-use Rattle.expull.specs.declared.Header.{Header}
-use Rattle.expull.specs.Header.{blockSize, blockCount}
-use Rattle.expull.specs.Blocks.{goodBlocks}
-use Rattle.store.specs.declared.State.{State}
-use Rattle.store.specs.Look.{Lent, walkOf, headerOf}
-use Rattle.store.proofs.Whole.{Whole, whole-facts}
+use Rattle.records.specs.Record.{keyLength, keyAt, headerOf}
+use Rattle.records.proofs.Laws.{good-record-in}
+use Rattle.expull_header.specs.declared.Header.{Header}
+use Rattle.expull_header.specs.Header.{blockSize, blockCount}
+use Rattle.expull_walk.specs.Blocks.{goodBlocks}
+use Rattle.store_state.specs.declared.State.{State}
+use Rattle.store_look.specs.Look.{Lent, walkOf}
+use Rattle.store_state.proofs.Whole.{Whole, whole-facts}
 use Rattle.history_names.specs.Table.{nameAt, occupied}
 use Rattle.history_names.proofs.Walk.{occupied-append}
 use Rattle.history_names.proofs.Lookup.{empty-bucket, named-shows, named-bucket, finds}

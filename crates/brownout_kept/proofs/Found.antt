@@ -21,17 +21,18 @@ use Rattle.memory_arena.proofs.Laws.{sensible-facts, sensible-short, good-end, 
 use Rattle.shared_arena_hashmap.specs.declared.Met.{Met}
 use Rattle.shared_arena_hashmap.specs.declared.Met.the-variants.{Empty, Standing, Damaged, Lap}
 use Rattle.shared_arena_hashmap.specs.Buckets.{hashAt}
-use Rattle.shared_arena_hashmap.specs.Probe.{keyLength, keyAt, valuePlace}
-use Rattle.shared_arena_hashmap.proofs.Laws.{power-facts, good-record-in}
-use Rattle.expull.specs.declared.Header.{Header}
-use Rattle.expull.specs.Header.{fresh, blockSize, blockCount, endBytesAt}
-use Rattle.expull.specs.Blocks.{blockPlace}
-use Rattle.expull.proofs.Laws.Header.{SoundHeader, sound-facts}
-use Rattle.expull.proofs.Laws.Blocks.{block-good}
-use Rattle.store.specs.declared.State.{State}
-use Rattle.store.specs.State.{firstOf}
-use Rattle.store.specs.Look.{Lent, checked, walkOf, headerOf, headerSound, inOrder}
-use Rattle.store.proofs.Whole.{Whole, whole-facts, first-in}
+use Rattle.records.specs.Record.{keyLength, keyAt, valuePlace, headerOf, headerSound}
+use Rattle.records.proofs.Laws.{good-record-in}
+use Rattle.shared_arena_hashmap.proofs.Laws.{power-facts}
+use Rattle.expull_header.specs.declared.Header.{Header}
+use Rattle.expull_header.specs.Header.{fresh, blockSize, blockCount, endBytesAt}
+use Rattle.expull_walk.specs.Blocks.{blockPlace}
+use Rattle.expull_header.proofs.Laws.{SoundHeader, sound-facts}
+use Rattle.expull_walk.proofs.Laws.{block-good}
+use Rattle.store_state.specs.declared.State.{State}
+use Rattle.store_state.specs.State.{firstOf}
+use Rattle.store_look.specs.Look.{Lent, checked, walkOf, inOrder}
+use Rattle.store_state.proofs.Whole.{Whole, whole-facts, first-in}
 use Rattle.history_lanes.specs.Lane.{sizeOn}
 use Rattle.history_lanes.proofs.Blocks.{apart-sym}
 use Rattle.history_names.specs.Table.{Names, nameAt, Shows, Table}

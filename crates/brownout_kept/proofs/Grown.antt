@@ -13,12 +13,13 @@ use Rattle.murmurhash2.specs.Murmur.{murmurHash2}
 use Rattle.shared_arena_hashmap.specs.Power.{grownLength}
 use Rattle.shared_arena_hashmap.specs.Buckets.{firstBucket}
 use Rattle.shared_arena_hashmap.specs.Grow.{grown}
-use Rattle.store.specs.declared.State.{State}
-use Rattle.store.specs.State.{lentBuckets, firstOf}
-use Rattle.store.specs.Look.{Lent}
-use Rattle.store.specs.Append.{roomToGrow, isSaturated, isCrowded, grows, grownState, stateGrown, tableGrown}
-use Rattle.store.proofs.Whole.{Whole, whole-facts, first-in, grown-fits}
-use Rattle.store.proofs.Cases.{state-stays, state-grows, table-stays, table-grows}
+use Rattle.store_state.specs.declared.State.{State}
+use Rattle.store_state.specs.State.{lentBuckets, firstOf}
+use Rattle.store_look.specs.Look.{Lent}
+use Rattle.store_append.specs.Append.{roomToGrow, isSaturated, isCrowded, grows, grownState, stateGrown, tableGrown}
+use Rattle.store_state.proofs.Whole.{Whole, whole-facts, first-in}
+use Rattle.store_append.proofs.Growth.{grown-fits}
+use Rattle.store_append.proofs.Cases.{state-stays, state-grows, table-stays, table-grows}
 use Rattle.history_names.specs.Table.{Names, Member, occupied, Table}
 use Rattle.history_names.proofs.Grow.{grows as grows-names}
 use Rattle.brownout_kept.specs.Laid.{Ghosts, Laid}

@@ -16,9 +16,9 @@ use Rattle.memory_arena.specs.declared.Arena.{Arena}
 use Rattle.memory_arena.specs.Address.{placeOf}
 use Rattle.memory_arena.specs.Pages.{standing, goodSpan}
 use Rattle.memory_arena.proofs.Laws.{standing-facts, good-below}
-use Rattle.expull.specs.declared.Header.{Header}
-use Rattle.expull.specs.Header.{blockSize, blockCount}
-use Rattle.expull.specs.Blocks.{blockPlace, goodBlocks}
+use Rattle.expull_header.specs.declared.Header.{Header}
+use Rattle.expull_header.specs.Header.{blockSize, blockCount}
+use Rattle.expull_walk.specs.Blocks.{blockPlace, goodBlocks}
 use Rattle.history_lanes.specs.Lane.{wideOn, LinkTo, Links, Below, Paged, oldest, Clear, usedEnd}
 use Rattle.history_lanes.proofs.Readings.{place-newest}
 use Rattle.history.specs.Sound.{BlocksApart}

@@ -16,23 +16,25 @@ use Rattle.memory_arena.specs.declared.Allocated.the-variants.{At, NoRoom, Refu
 use Rattle.memory_arena.specs.Pages.{roomFor}
 use Rattle.memory_arena.proofs.Laws.{standing-facts, good-below}
 use Rattle.shared_arena_hashmap.specs.declared.Met.the-variants.{Empty, Standing, Lap}
-use Rattle.expull.specs.declared.Header.{Header}
-use Rattle.expull.specs.Header.{fresh}
-use Rattle.expull.specs.Append.{Writing, writing, appended, goodTail}
+use Rattle.expull_header.specs.declared.Header.{Header}
+use Rattle.expull_header.specs.Header.{fresh}
+use Rattle.expull_append.specs.Append.{Writing, writing, appended, goodTail}
 use Rattle.limits.specs.Refusals.{numberIn}
-use Rattle.store.specs.Said.{saidCounted}
-use Rattle.store.specs.declared.State.{State}
-use Rattle.store.specs.declared.Appended.{Appended}
-use Rattle.store.specs.declared.Appended.the-variants.{Accepted, Declined}
-use Rattle.store.specs.declared.Counted.the-variants.{Keys, Unknown}
-use Rattle.store.specs.declared.Name.{Name}
-use Rattle.store.specs.declared.Name.the-variants.{TooLong, Nameless, Proper}
-use Rattle.store.specs.Name.{nameKind}
-use Rattle.store.specs.Look.{Lent, checked, walkOf, headerOf, countOf}
-use Rattle.store.specs.Append.{Out, out, declined, isSaturated, isCrowded, standingWritten, newWritten, onKeyRoom}
-use Rattle.store.specs.Append.{appendNew, appendOf}
-use Rattle.store.proofs.Guard.{kind-length, kind-short}
-use Rattle.store.proofs.Cases.{append-3, append-13, append-met, met-standing, met-empty, met-lap, new-5, new-room, standing-on}
+use Rattle.store_look.specs.Said.{saidCounted}
+use Rattle.store_state.specs.declared.State.{State}
+use Rattle.store_append.specs.declared.Appended.{Appended}
+use Rattle.store_append.specs.declared.Appended.the-variants.{Accepted, Declined}
+use Rattle.store_look.specs.declared.Counted.the-variants.{Keys, Unknown}
+use Rattle.store_state.specs.declared.Name.{Name}
+use Rattle.store_state.specs.declared.Name.the-variants.{TooLong, Nameless, Proper}
+use Rattle.store_state.specs.Name.{nameKind}
+use Rattle.records.specs.Record.{headerOf}
+use Rattle.store_look.specs.Look.{Lent, checked, walkOf, countOf}
+use Rattle.store_append.specs.Append.{Out, out, declined, isSaturated, isCrowded, standingWritten, newWritten}
+use Rattle.store_append.specs.Append.{onKeyRoom, appendNew, appendOf}
+use Rattle.store_state.proofs.Guard.{kind-length, kind-short}
+use Rattle.store_append.proofs.Cases.{append-3, append-13, append-met, met-standing, met-empty, met-lap, new-5}
+use Rattle.store_append.proofs.Cases.{new-room, standing-on}
 use Rattle.store.proofs.Promises.{promises as store·promises}
 use Rattle.store.proofs.Kept.{append-whole}
 use Rattle.history_lanes.specs.Lane.{sizeOn, wideOn}

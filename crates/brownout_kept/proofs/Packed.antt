@@ -14,8 +14,8 @@ use Rattle.numbers.proofs.Tests.{both, left-false, right-false}
 use Rattle.spans.specs.Span.{Apart}
 use Rattle.memory_arena.specs.declared.Arena.{Arena}
 use Rattle.memory_arena.proofs.Laws.{standing-facts}
-use Rattle.expull.specs.declared.Header.{Header}
-use Rattle.expull.specs.Header.{blockSize, soundHeader}
+use Rattle.expull_header.specs.declared.Header.{Header}
+use Rattle.expull_header.specs.Header.{blockSize, soundHeader}
 use Rattle.history_lanes.specs.Lane.{wideOn, blocksWide, Below, oldest, Clear, usedEnd, HeaderFits}
 use Rattle.history_lanes.proofs.Blocks.{size-top, size-full}
 use Rattle.brownout_kept.specs.Laid.{Own, Chain}

@@ -16,11 +16,10 @@ use Rattle.memory_arena.specs.declared.Arena.{Arena}
 use Rattle.memory_arena.specs.Address.{placeOf}
 use Rattle.memory_arena.specs.Pages.{standing, goodSpan}
 use Rattle.memory_arena.proofs.Laws.{standing-facts, good-end, good-page, good-below}
-use Rattle.shared_arena_hashmap.specs.Probe.{keyLength, keyAt, goodRecord, valuePlace}
-use Rattle.expull.specs.declared.Header.{Header}
-use Rattle.expull.specs.Header.{headerBytes, headerAt, endBytesAt, soundHeader}
-use Rattle.expull.proofs.Laws.Header.{header-back, ends-back}
-use Rattle.store.specs.Look.{headerOf, headerSound}
+use Rattle.records.specs.Record.{keyLength, keyAt, goodRecord, valuePlace, headerOf, headerSound}
+use Rattle.expull_header.specs.declared.Header.{Header}
+use Rattle.expull_header.specs.Header.{headerBytes, headerAt, endBytesAt, soundHeader}
+use Rattle.expull_header.proofs.Laws.{header-back, ends-back}
 use Rattle.history_lanes.specs.Lane.{usedEnd, HeaderFits}
 use Rattle.history_lanes.proofs.Blocks.{apart-within}
 

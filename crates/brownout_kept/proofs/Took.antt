@@ -17,22 +17,21 @@ use Rattle.memory_arena.specs.declared.Arena.{Arena}
 use Rattle.memory_arena.specs.declared.Allocated.the-variants.{At}
 use Rattle.memory_arena.specs.Address.{placeOf}
 use Rattle.memory_arena.specs.Pages.{standing, roomFor, goodSpan}
-use Rattle.memory_arena.proofs.Laws.{place-of, Room, room-size, room-facts, room-in, standing-made}
-use Rattle.memory_arena.proofs.Laws.{Sensible, sensible-facts, sensible-short}
-use Rattle.memory_arena.proofs.Laws.{good-end}
+use Rattle.memory_arena.proofs.Laws.{place-of, Room, room-size, room-facts, room-in, standing-made, Sensible}
+use Rattle.memory_arena.proofs.Laws.{sensible-facts, sensible-short, good-end}
 use Rattle.numbers.proofs.Tests.{both}
-use Rattle.shared_arena_hashmap.specs.Probe.{keyLength, keyAt, goodRecord, valuePlace}
+use Rattle.records.specs.Record.{keyLength, keyAt, goodRecord, valuePlace, headerOf, headerSound, recordBytes}
 use Rattle.shared_arena_hashmap.specs.Grow.{entered}
-use Rattle.shared_arena_hashmap.proofs.Laws.{good-record-in}
-use Rattle.expull.specs.declared.Header.{Header}
-use Rattle.expull.specs.Header.{fresh, headerBytes}
-use Rattle.expull.specs.Append.{Writing, writing, appended}
-use Rattle.expull.proofs.Laws.Header.{header-length}
-use Rattle.store.specs.declared.State.{State}
-use Rattle.store.specs.State.{firstOf}
-use Rattle.store.specs.Look.{Lent, lent, checked, headerOf, headerSound}
-use Rattle.store.specs.Append.{isCrowded, stateGrown, tableGrown, movedState, recordBytes}
-use Rattle.store.proofs.Whole.{Whole, whole-facts}
+use Rattle.records.proofs.Laws.{good-record-in}
+use Rattle.expull_header.specs.declared.Header.{Header}
+use Rattle.expull_header.specs.Header.{fresh, headerBytes}
+use Rattle.expull_append.specs.Append.{Writing, writing, appended}
+use Rattle.expull_header.proofs.Laws.{header-length}
+use Rattle.store_state.specs.declared.State.{State}
+use Rattle.store_state.specs.State.{firstOf}
+use Rattle.store_look.specs.Look.{Lent, lent, checked}
+use Rattle.store_append.specs.Append.{isCrowded, stateGrown, tableGrown, movedState}
+use Rattle.store_state.proofs.Whole.{Whole, whole-facts}
 use Rattle.history_lanes.specs.Lane.{HeaderFits}
 use Rattle.history_lanes.proofs.Blocks.{apart-within}
 use Rattle.history_names.specs.Table.{Names, Member, Table}
@@ -42,8 +41,7 @@ use Rattle.history_names.proofs.Grow.{table-readdressed}
 use Rattle.history.specs.Sound.{Record, BlocksApart}
 use Rattle.history.proofs.Apart.{apart-none, apart-turned}
 use Rattle.history.proofs.Kept.{updated}
-use Rattle.history.proofs.Records.{record-key, record-good, record-header, record-sound}
-use Rattle.history.proofs.Records.{record-written}
+use Rattle.history.proofs.Records.{record-key, record-good, record-header, record-sound, record-written}
 use Rattle.brownout_kept.specs.Laid.{Chain, Ghosts, Stands, Laid}
 use Rattle.brownout_kept.proofs.Chain.{Step, chain-fresh, chain-appended}
 use Rattle.brownout_kept.proofs.Packed.{chain-header}

@@ -12,11 +12,11 @@ use Rattle.spans.specs.Span.{Apart}
 use Rattle.murmurhash2.specs.Murmur.{murmurHash2}
 use Rattle.memory_arena.specs.declared.Arena.{Arena}
 use Rattle.memory_arena.specs.Pages.{standing}
-use Rattle.shared_arena_hashmap.specs.Probe.{keyAt, goodRecord}
-use Rattle.expull.specs.declared.Header.{Header}
-use Rattle.store.specs.declared.State.{State}
-use Rattle.store.specs.State.{firstOf}
-use Rattle.store.specs.Look.{Lent, checked, headerOf, headerSound}
+use Rattle.records.specs.Record.{keyAt, goodRecord, headerOf, headerSound}
+use Rattle.expull_header.specs.declared.Header.{Header}
+use Rattle.store_state.specs.declared.State.{State}
+use Rattle.store_state.specs.State.{firstOf}
+use Rattle.store_look.specs.Look.{Lent, checked}
 use Rattle.history_lanes.specs.Lane.{sizeOn, wideOn, Links, Below, Paged, oldest, Clear, usedEnd}
 use Rattle.history_names.specs.Table.{Names, Member, occupied, Table}
 use Rattle.history.specs.Sound.{BlocksApart}

@@ -4,10 +4,10 @@ use Prim.Native.Nat.{ℕ}
 use mathlib.Core.Path.{_≡_}
 use mathlib.Core.Logic.{_≢_}
 use mathlib.Core.List.{List}
-use Rattle.store.specs.declared.State.{State}
-use Rattle.store.specs.declared.Appended.the-variants.{Accepted}
-use Rattle.store.specs.Look.{Lent}
-use Rattle.store.specs.Append.{appendOf}
+use Rattle.store_state.specs.declared.State.{State}
+use Rattle.store_append.specs.declared.Appended.the-variants.{Accepted}
+use Rattle.store_look.specs.Look.{Lent}
+use Rattle.store_append.specs.Append.{appendOf}
 use Rattle.history.specs.History.{World, Call, play}
 use Rattle.history.specs.Numbers.{numberOf}
 use Rattle.brownout_faults.specs.declared.Checked.the-variants.{Sound}

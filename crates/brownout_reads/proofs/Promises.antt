@@ -12,15 +12,16 @@ use lib.IntN.{ℤ}
 use borrow.Author.Tests.{le-leb, lt-leb, leb-true, leb-false}
 use Rattle.limits.specs.Refusals.{unvinting, refusalNumbers, isAmong, numberIn}
 use Rattle.numbers.proofs.Tests.{both}
-use Rattle.expull.specs.Header.{laneLength, blockCount}
-use Rattle.expull.specs.Blocks.{laneBytes, goodBlocks}
-use Rattle.store.specs.declared.State.{State}
-use Rattle.store.specs.declared.Lookup.{Lookup}
-use Rattle.store.specs.declared.Lookup.the-variants.{At, Missing, Failed}
-use Rattle.store.specs.declared.Answer.the-variants.{Found}
-use Rattle.store.specs.declared.Outcome.the-variants.{Reading}
-use Rattle.store.specs.Said.{saidLookup}
-use Rattle.store.specs.Look.{Lent, lookupOf, headerOf, headerSound, blocksSound, readAt, readOf, reading}
+use Rattle.expull_header.specs.Header.{laneLength, blockCount}
+use Rattle.expull_walk.specs.Blocks.{laneBytes, goodBlocks}
+use Rattle.store_state.specs.declared.State.{State}
+use Rattle.store_look.specs.declared.Lookup.{Lookup}
+use Rattle.store_look.specs.declared.Lookup.the-variants.{At, Missing, Failed}
+use Rattle.store_look.specs.declared.Answer.the-variants.{Found}
+use Rattle.store_look.specs.declared.Outcome.the-variants.{Reading}
+use Rattle.store_look.specs.Said.{saidLookup}
+use Rattle.records.specs.Record.{headerOf, headerSound}
+use Rattle.store_look.specs.Look.{Lent, lookupOf, blocksSound, readAt, readOf, reading}
 use Rattle.reading_run.specs.Readings.{Split, vintsOf, readingsIn}
 use Rattle.reading_run.proofs.Split.{refusals-listed}
 use Rattle.readings.specs.declared.Recalled.the-variants.{Readings, Refused as NotRecalled}

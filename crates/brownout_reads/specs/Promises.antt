@@ -5,8 +5,8 @@ use mathlib.Core.Logic.{_≢_}
 use mathlib.Core.List.{List}
 use lib.IntN.{ℤ}
 use Rattle.limits.specs.Refusals.{numberIn}
-use Rattle.store.specs.declared.State.{State}
-use Rattle.store.specs.Look.{Lent}
+use Rattle.store_state.specs.declared.State.{State}
+use Rattle.store_look.specs.Look.{Lent}
 use Rattle.readings.specs.Readings.{readingsOf}
 use Rattle.readings.specs.Said.{saidRecalled}
 use Rattle.lane_pieces.specs.Piece.{pieceOf}

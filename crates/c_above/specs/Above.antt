@@ -4,7 +4,7 @@ use Prim.Native.Nat.{ℕ}
 use lib.IntN.{ℤ}
 use mathlib.Core.Bool.{cond}
 use mathlib.Core.List.{List}
-use Rattle.store.specs.Look.{Lent}
+use Rattle.store_look.specs.Look.{Lent}
 use Rattle.brownout_faults.specs.declared.Checked.{Checked}
 use Rattle.brownout_faults.specs.declared.Checked.the-variants.{Sound, Faulty, Miscounted, Refused as NotChecked}
 use Rattle.brownout_faults.specs.Check.{Out as Checking, checkOf}

@@ -8,7 +8,7 @@ use brownout_faults::Checked;
 use readings::Recalled;
 use report::Reported;
 ghost use mathlib.Core.Path.{_≡_};
-ghost use Rattle.store.specs.Look.{lent};
+ghost use Rattle.store_look.specs.Look.{lent};
 ghost use Rattle.c_above.specs.Above.{checkedTold, checkIn, reportedTold, reportIn, driftIn};
 ghost use Rattle.c_above.specs.Above.{recalledTold, readingsIn};
 

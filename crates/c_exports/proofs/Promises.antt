@@ -12,14 +12,14 @@ use Rattle.numbers.specs.LittleEndian.{Bytes}
 use Rattle.spans.specs.Span.{overwrite}
 use Rattle.shared_arena_hashmap.specs.Power.{roundedDown}
 use Rattle.shared_arena_hashmap.specs.Buckets.{cleared}
-use Rattle.store.specs.declared.State.{State}
-use Rattle.store.specs.declared.Created.{Created}
-use Rattle.store.specs.declared.Created.the-variants.{Made, Barred}
-use Rattle.store.specs.declared.Appended.{Appended}
-use Rattle.store.specs.declared.Appended.the-variants.{Accepted, Declined}
-use Rattle.store.specs.Create.{out, creatable, freshState, createOf}
-use Rattle.store.specs.Look.{Lent, lent}
-use Rattle.store.specs.Append.{Out, appendOf}
+use Rattle.store_state.specs.declared.State.{State}
+use Rattle.store_create.specs.declared.Created.{Created}
+use Rattle.store_create.specs.declared.Created.the-variants.{Made, Barred}
+use Rattle.store_append.specs.declared.Appended.{Appended}
+use Rattle.store_append.specs.declared.Appended.the-variants.{Accepted, Declined}
+use Rattle.store_create.specs.Create.{out, creatable, freshState, createOf}
+use Rattle.store_look.specs.Look.{Lent, lent}
+use Rattle.store_append.specs.Append.{Out, appendOf}
 use Rattle.store.proofs.Kept.{create-whole, append-whole}
 use Rattle.store.proofs.Promises.{promises as store·promises}
 use Rattle.state_area.specs.Area.{areaSize, sensibleArea, stateAt, areaOf, Fits}

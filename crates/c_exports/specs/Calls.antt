@@ -5,9 +5,9 @@ use mathlib.Core.Bool.{cond}
 use mathlib.Core.List.{List}
 use lib.Dec.{leb}
 use lib.ListN.{length}
-use Rattle.store.specs.Create.{creatable, createOf}
-use Rattle.store.specs.Look.{Lent, lookupOf, lengthOf, Read, readOf, nextOf}
-use Rattle.store.specs.Append.{appendOf}
+use Rattle.store_create.specs.Create.{creatable, createOf}
+use Rattle.store_look.specs.Look.{Lent, lookupOf, lengthOf, Read, readOf, nextOf}
+use Rattle.store_append.specs.Append.{appendOf}
 use Rattle.state_area.specs.Area.{areaSize, sensibleArea, stateAt}
 use Rattle.c_told.specs.Told.{says, answerTold, lookupTold, listedTold, created, appended}
 

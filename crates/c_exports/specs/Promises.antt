@@ -7,12 +7,12 @@ use mathlib.Core.Bool.{true, false}
 use mathlib.Core.List.{List}
 use lib.ListN.{length}
 use Rattle.numbers.specs.LittleEndian.{Bytes}
-use Rattle.store.specs.declared.State.{State}
-use Rattle.store.specs.declared.Created.the-variants.{Made}
-use Rattle.store.specs.declared.Appended.the-variants.{Accepted}
-use Rattle.store.specs.Create.{createOf}
-use Rattle.store.specs.Look.{Lent}
-use Rattle.store.specs.Append.{appendOf}
+use Rattle.store_state.specs.declared.State.{State}
+use Rattle.store_create.specs.declared.Created.the-variants.{Made}
+use Rattle.store_append.specs.declared.Appended.the-variants.{Accepted}
+use Rattle.store_create.specs.Create.{createOf}
+use Rattle.store_look.specs.Look.{Lent}
+use Rattle.store_append.specs.Append.{appendOf}
 use Rattle.state_area.specs.Area.{areaSize, sensibleArea, stateAt}
 use Rattle.c_exports.specs.Calls.{createIn, appendIn}
 

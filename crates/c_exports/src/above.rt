@@ -1,7 +1,7 @@
 // The calls of the crates above the store: the brownout check, the shift report, lanes of readings. The work is in
 // c_above; here they get their C names.
 ghost use mathlib.Core.Path.{_≡_};
-ghost use Rattle.store.specs.Look.{lent};
+ghost use Rattle.store_look.specs.Look.{lent};
 ghost use Rattle.c_above.specs.Above.{checkIn, reportIn, driftIn, readingsIn};
 
 // Sound, or the first faulty bucket and its first fault.

@@ -1,6 +1,6 @@
 // The join of two stores. The work is in c_join; here it gets its C name.
 ghost use mathlib.Core.Path.{_≡_};
-ghost use Rattle.store.specs.Look.{lent};
+ghost use Rattle.store_look.specs.Look.{lent};
 ghost use Rattle.c_join.specs.Joined.{joining, joinIn};
 
 // Joins a second store, in its own areas, onto the first; how many lanes went across is told.

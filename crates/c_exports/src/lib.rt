@@ -3,8 +3,8 @@
 //
 // It promises, for any numbers and any areas: what the area holds is the state, and the answer is the store's, as
 // specs/Calls.antt says over the store's own definitions; a short or senseless area is 2; a refusal changes no lent
-// byte or word but the three in which an answer is told. It uses state_area, store and the crates above the store whose
-// calls it passes on.
+// byte or word but the three in which an answer is told. It uses state_area, store_state, store_create, store_look,
+// store_append, store_quick, store and the crates above the store whose calls it passes on.
 pub mod above;
 pub mod joined;
 
@@ -15,12 +15,12 @@ use c_told::tell_answer;
 use c_told::tell_listed;
 use c_told::tell_lookup;
 use shared_arena_hashmap::Met;
-use store::Tried;
+use store_quick::Tried;
 ghost use mathlib.Core.Path.{_≡_};
 ghost use mathlib.Core.Bool.{true};
 ghost use lib.ListN.{length};
-ghost use Rattle.store.specs.Append.{Looked, appendOf};
-ghost use Rattle.store.specs.Look.{lent};
+ghost use Rattle.store_append.specs.Append.{Looked, appendOf};
+ghost use Rattle.store_look.specs.Look.{lent};
 ghost use Rattle.state_area.specs.Area.{sensibleArea, stateAt};
 ghost use Rattle.c_told.specs.Told.{appended};
 ghost use Rattle.c_exports.specs.Calls.{createIn, appendIn, lookupIn, lengthIn, nextIn, readIn};
@@ -42,13 +42,13 @@ pub extern "C" fn nuvrisel_create(
         ≡ createIn capacity seed size (now (state .entry)) (now (table .entry)) (length (now (keys .entry)))
         (length (now (lists .entry))) ⌝ }
 {
-    if !store::create::is_creatable(capacity, size, table.len(), keys.len(), lists.len()) {
+    if !store_create::is_creatable(capacity, size, table.len(), keys.len(), lists.len()) {
         return 1;
     }
     if state.len() < state_area::AREA_SIZE {
         return 2;
     }
-    let answer = store::create::create(capacity, seed, size, table, keys, lists);
+    let answer = store_create::create(capacity, seed, size, table, keys, lists);
     save_created(state, answer)
 }
 
@@ -73,7 +73,7 @@ fn append_fully(
         (now (state .entry)) ⌝ }
 {
     let st = state_area::load(state);
-    let answer = store::write::append_met(st, table, keys, lists, name, bytes, hash, met, looked);
+    let answer = store_append::append_met(st, table, keys, lists, name, bytes, hash, met, looked);
     save_appended(state, answer)
 }
 
@@ -95,7 +95,7 @@ pub extern "C" fn nuvrisel_append(
         return 2;
     }
     let st = state_area::load(state);
-    let tried = store::quick::try_append(st, table, keys, lists, name, bytes);
+    let tried = store_quick::try_append(st, table, keys, lists, name, bytes);
     match tried {
         Tried::Done => 0,
         Tried::Refused(n) => n,
@@ -125,7 +125,7 @@ pub extern "C" fn nuvrisel_lookup(
         return tell(told, 2, 0, 0);
     }
     let st = state_area::load(state);
-    let r = store::look::lookup(st, table, keys, lists, name);
+    let r = store_look::lane::lookup(st, table, keys, lists, name);
     let found = r.answer;
     tell_lookup(told, found)
 }
@@ -148,7 +148,7 @@ pub extern "C" fn nuvrisel_length(
         return tell(told, 2, 0, 0);
     }
     let st = state_area::load(state);
-    let answer = store::look::length_alone(st, table, keys, lists, name);
+    let answer = store_look::lane::length_alone(st, table, keys, lists, name);
     tell_answer(told, answer)
 }
 
@@ -170,7 +170,7 @@ pub extern "C" fn nuvrisel_next(
         return tell(told, 2, 0, 0);
     }
     let st = state_area::load(state);
-    let next = store::look::next_occupied(st, table, keys, lists, index);
+    let next = store_look::listing::next_occupied(st, table, keys, lists, index);
     tell_listed(told, next)
 }
 
@@ -193,7 +193,7 @@ pub extern "C" fn nuvrisel_read(
         return tell(told, 2, 0, 0);
     }
     let st = state_area::load(state);
-    let r = store::look::read(st, table, keys, lists, name, output);
+    let r = store_look::lane::read(st, table, keys, lists, name, output);
     let answer = r.answer;
     tell_answer(told, answer)
 }

@@ -9,11 +9,11 @@ use lib.Dec.{leb}
 use lib.ListN.{length}
 use Rattle.numbers.proofs.Tests.{both}
 use Rattle.spans.specs.Span.{overwrite}
-use Rattle.store.specs.declared.State.{State}
-use Rattle.store.specs.declared.Appended.{Appended}
-use Rattle.store.specs.declared.Appended.the-variants.{Accepted, Declined}
-use Rattle.store.specs.Look.{checked}
-use Rattle.store.specs.Append.{Out as Append·Out, declined}
+use Rattle.store_state.specs.declared.State.{State}
+use Rattle.store_append.specs.declared.Appended.{Appended}
+use Rattle.store_append.specs.declared.Appended.the-variants.{Accepted, Declined}
+use Rattle.store_look.specs.Look.{checked}
+use Rattle.store_append.specs.Append.{Out as Append·Out, declined}
 use Rattle.store.proofs.Promises.{promises as store·promises}
 use Rattle.history.specs.History.{World, appendIn}
 use Rattle.join.specs.Join.{store, Told, lane, broken, toldBy, Out, stopped, onAppended, joinLanes, joinOf, lanesIn}

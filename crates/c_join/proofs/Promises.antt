@@ -6,8 +6,8 @@ use mathlib.Core.List.{List}
 use Rattle.numbers.specs.LittleEndian.{Bytes}
 use Rattle.numbers.proofs.Tests.{both}
 use Rattle.spans.specs.Span.{overwrite}
-use Rattle.store.specs.declared.State.{State}
-use Rattle.store.specs.Look.{Lent}
+use Rattle.store_state.specs.declared.State.{State}
+use Rattle.store_look.specs.Look.{Lent}
 use Rattle.history.specs.History.{World}
 use Rattle.join.specs.declared.Joined.{Joined}
 use Rattle.join.specs.declared.Joined.the-variants.{Whole, Halted}

@@ -4,7 +4,7 @@ use Prim.Native.Nat.{ℕ}
 use mathlib.Core.Bool.{cond, _&&_}
 use mathlib.Core.List.{List}
 use Rattle.spans.specs.Span.{overwrite}
-use Rattle.store.specs.Look.{Lent}
+use Rattle.store_look.specs.Look.{Lent}
 use Rattle.join.specs.declared.Joined.{Joined}
 use Rattle.join.specs.declared.Joined.the-variants.{Whole, Halted}
 use Rattle.join.specs.Join.{store, Out, joinOf}

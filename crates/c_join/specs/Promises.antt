@@ -5,8 +5,8 @@ use mathlib.Core.Path.{_≡_}
 use mathlib.Core.Bool.{true, false}
 use mathlib.Core.List.{List}
 use Rattle.numbers.specs.LittleEndian.{Bytes}
-use Rattle.store.specs.declared.State.{State}
-use Rattle.store.specs.Look.{Lent}
+use Rattle.store_state.specs.declared.State.{State}
+use Rattle.store_look.specs.Look.{Lent}
 use Rattle.join.specs.declared.Joined.{Joined}
 use Rattle.join.specs.declared.Joined.the-variants.{Whole, Halted}
 use Rattle.join.specs.Join.{store, Out, joinOf, lanesIn}

@@ -8,7 +8,7 @@ use join::Joined;
 ghost use mathlib.Core.Path.{_≡_};
 ghost use Prim.Native.Nat.{_≤_};
 ghost use lib.ListN.{length};
-ghost use Rattle.store.specs.Look.{lent};
+ghost use Rattle.store_look.specs.Look.{lent};
 ghost use Rattle.state_area.specs.Area.{areaSize};
 ghost use Rattle.c_join.specs.Joined.{savedJoined, joining, joinIn};
 

@@ -1,10 +1,10 @@
--- A call on the state that a lent area holds: what it answers, said, where the area was found sensible, and what is said
--- where it wasn't. Assumes nothing.
+-- A call on the state that a lent area holds: what it answers, said, where the area was found sensible, and what is
+-- said where it wasn't. Assumes nothing.
 use Prim.Native.Nat.{ℕ}
 use mathlib.Core.Path.{_≡_, ap, _∙_}
 use mathlib.Core.Bool.{true, false, cond}
 use mathlib.Core.List.{List}
-use Rattle.store.specs.declared.State.{State}
+use Rattle.store_state.specs.declared.State.{State}
 use Rattle.state_area.specs.Area.{sensibleArea, stateAt}
 
 -- `asked` is the call on a state, o what it gave, x what is said of that, y what a senseless area would have been

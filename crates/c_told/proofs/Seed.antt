@@ -13,16 +13,18 @@ use Rattle.memory_arena.specs.declared.Allocated.the-variants.{At, NoRoom, Refu
 use Rattle.memory_arena.specs.Pages.{roomFor}
 use Rattle.shared_arena_hashmap.specs.declared.Met.{Met}
 use Rattle.shared_arena_hashmap.specs.declared.Met.the-variants.{Empty, Standing, Damaged, Lap}
-use Rattle.expull.specs.Header.{fresh}
-use Rattle.expull.specs.Append.{Writing, writing, appended, goodTail}
-use Rattle.store.specs.declared.State.{State}
-use Rattle.store.specs.declared.Appended.the-variants.{Accepted}
-use Rattle.store.specs.declared.Name.{Name}
-use Rattle.store.specs.declared.Name.the-variants.{TooLong, Nameless, Proper}
-use Rattle.store.specs.Name.{nameKind, byKind}
-use Rattle.store.specs.Look.{Lent, checked, walkOf, headerOf, headerSound}
-use Rattle.store.specs.Append.{Out, declined, isSaturated, isCrowded, grows, grownState, stateGrown, movedState}
-use Rattle.store.specs.Append.{standingWritten, appendStanding, newWritten, onKeyRoom, appendNew, onMet, appendOf}
+use Rattle.expull_header.specs.Header.{fresh}
+use Rattle.expull_append.specs.Append.{Writing, writing, appended, goodTail}
+use Rattle.store_state.specs.declared.State.{State}
+use Rattle.store_append.specs.declared.Appended.the-variants.{Accepted}
+use Rattle.store_state.specs.declared.Name.{Name}
+use Rattle.store_state.specs.declared.Name.the-variants.{TooLong, Nameless, Proper}
+use Rattle.store_state.specs.Name.{nameKind, byKind}
+use Rattle.records.specs.Record.{headerOf, headerSound}
+use Rattle.store_look.specs.Look.{Lent, checked, walkOf}
+use Rattle.store_append.specs.Append.{Out, declined, isSaturated, isCrowded, grows, grownState, stateGrown, movedState}
+use Rattle.store_append.specs.Append.{standingWritten, appendStanding, newWritten, onKeyRoom, appendNew, onMet}
+use Rattle.store_append.specs.Append.{appendOf}
 
 -- what was accepted has the seed of a state
 Seeded : State → Out → Type 0

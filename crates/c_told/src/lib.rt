@@ -3,12 +3,12 @@
 //
 // It promises what specs/Told.antt says of each answer of the store: its code, the words that are told, the state area.
 // An area of fewer than three words is left as it was. It uses state_area and the store's types.
-use store::Answer;
-use store::Appended;
-use store::Created;
-use store::Listed;
-use store::Lookup;
-use store::Outcome;
+use store_append::Appended;
+use store_create::Created;
+use store_look::Answer;
+use store_look::Listed;
+use store_look::Lookup;
+use store_look::Outcome;
 ghost use mathlib.Core.Path.{_≡_};
 ghost use Prim.Native.Nat.{_≤_};
 ghost use lib.ListN.{length};

@@ -9,18 +9,18 @@ use Rattle.memory_arena.specs.declared.Allocated.{Allocated}
 use Rattle.memory_arena.specs.declared.Allocated.the-variants.{At, NoRoom, Refused as NotAllocated}
 use Rattle.memory_arena.specs.declared.Touched.{Touched}
 use Rattle.memory_arena.specs.declared.Touched.the-variants.{Done, Declined as NotTouched}
-use Rattle.store.specs.declared.State.{State}
-use Rattle.store.specs.declared.Created.{Created}
-use Rattle.store.specs.declared.Created.the-variants.{Made, Barred}
-use Rattle.store.specs.declared.Appended.{Appended}
-use Rattle.store.specs.declared.Appended.the-variants.{Accepted, Declined}
-use Rattle.store.specs.declared.Outcome.{Outcome}
-use Rattle.store.specs.declared.Outcome.the-variants.{Length, Reading, Block, NoSuchBlock}
-use Rattle.store.specs.declared.Answer.{Answer}
-use Rattle.store.specs.declared.Answer.the-variants.{Absent, Found, Refused}
-use Rattle.store.specs.Create.{Out as Creation, createOf}
-use Rattle.store.specs.Look.{Lent, lengthOf, Read, readOf}
-use Rattle.store.specs.Append.{Out as Appending, appendOf}
+use Rattle.store_state.specs.declared.State.{State}
+use Rattle.store_create.specs.declared.Created.{Created}
+use Rattle.store_create.specs.declared.Created.the-variants.{Made, Barred}
+use Rattle.store_append.specs.declared.Appended.{Appended}
+use Rattle.store_append.specs.declared.Appended.the-variants.{Accepted, Declined}
+use Rattle.store_look.specs.declared.Outcome.{Outcome}
+use Rattle.store_look.specs.declared.Outcome.the-variants.{Length, Reading, Block, NoSuchBlock}
+use Rattle.store_look.specs.declared.Answer.{Answer}
+use Rattle.store_look.specs.declared.Answer.the-variants.{Absent, Found, Refused}
+use Rattle.store_create.specs.Create.{Out as Creation, createOf}
+use Rattle.store_look.specs.Look.{Lent, lengthOf, Read, readOf}
+use Rattle.store_append.specs.Append.{Out as Appending, appendOf}
 
 -- Two answers that have no number of document 01.
 abbrev pub absentWord : ℕ

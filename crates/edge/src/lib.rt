@@ -3,15 +3,16 @@
 //
 // It promises, for any numbers and any areas: what the proved calls below it answer and leave, written to a lent area
 // of 64-bit words as specs/Told.antt says. The state goes in as numbers and comes out as words. It serves that run
-// alone and is no interface for a controller. It uses spans, memory_arena and store.
+// alone and is no interface for a controller. It uses spans, memory_arena, store_state, store_create, store_look and
+// store_append.
 use memory_arena::Allocated;
 use memory_arena::Arena;
 use memory_arena::Touched;
-use store::Answer;
-use store::Appended;
-use store::Created;
-use store::Outcome;
-use store::State;
+use store_append::Appended;
+use store_create::Created;
+use store_look::Answer;
+use store_look::Outcome;
+use store_state::State;
 ghost use mathlib.Core.Path.{_≡_};
 ghost use mathlib.Core.Bool.{cond};
 ghost use mathlib.Core.List.{[], _∷_};
@@ -19,9 +20,9 @@ ghost use Prim.Native.Nat.{_≤_};
 ghost use lib.ListN.{length};
 ghost use Rattle.spans.specs.Span.{overwrite};
 ghost use Rattle.memory_arena.specs.Calls.{allocateOf, out, readOf, writeOf};
-ghost use Rattle.store.specs.Create.{createOf};
-ghost use Rattle.store.specs.Look.{lent, lengthOf};
-ghost use Rattle.store.specs.Append.{appendOf};
+ghost use Rattle.store_create.specs.Create.{createOf};
+ghost use Rattle.store_look.specs.Look.{lent, lengthOf};
+ghost use Rattle.store_append.specs.Append.{appendOf};
 ghost use Rattle.edge.specs.Told.{stateOf, fieldsOf, toldCreated, toldAppended, lengthIn, toldAnswer};
 ghost use Rattle.edge.specs.Told.{toldAllocated, numberTouched, createTold, appendTold, readTold};
 
@@ -203,7 +204,7 @@ pub extern "C" fn edge_create(
         ≡ createTold (createOf capacity seed size (now (table .entry)) (length (now (keys .entry)))
         (length (now (lists .entry)))) (now (told .entry)) ⌝ }
 {
-    let r = store::create::create(capacity, seed, size, table, keys, lists);
+    let r = store_create::create(capacity, seed, size, table, keys, lists);
     tell_created(told, r);
 }
 
@@ -247,7 +248,7 @@ pub extern "C" fn edge_append(
         list_used,
         size,
     );
-    let r = store::write::append(st, table, keys, lists, name, bytes);
+    let r = store_append::append(st, table, keys, lists, name, bytes);
     let answer = r.answer;
     tell_appended(told, answer);
 }
@@ -291,7 +292,7 @@ pub extern "C" fn edge_length(
         list_used,
         size,
     );
-    let r = store::look::length(st, table, keys, lists, name);
+    let r = store_look::lane::length(st, table, keys, lists, name);
     let answer = r.answer;
     tell_answer(told, answer);
 }
@@ -318,7 +319,7 @@ pub extern "C" fn edge_read(
     told: &mut [u64],
 )
     ensures settled { λ _. ⌜ (now (output .exit), now (told .exit))
-        ≡ readTold (Rattle.store.specs.Look.readOf (stateOf seed words «key_bytes» «list_bytes» buckets back count
+        ≡ readTold (Rattle.store_look.specs.Look.readOf (stateOf seed words «key_bytes» «list_bytes» buckets back count
         «key_page» «key_used» «list_page» «list_used» size)
         (lent (now (table .entry)) (now (keys .entry)) (now (lists .entry))) (now (name .entry))
         (now (output .entry))) (now (told .entry)) ⌝ }
@@ -337,7 +338,7 @@ pub extern "C" fn edge_read(
         list_used,
         size,
     );
-    let r = store::look::read(st, table, keys, lists, name, output);
+    let r = store_look::lane::read(st, table, keys, lists, name, output);
     let answer = r.answer;
     tell_answer(told, answer);
 }

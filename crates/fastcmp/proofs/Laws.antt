@@ -1,4 +1,5 @@
--- Laws of the test of equality: what it says, a turn of a loop over bytes or over parts, parts that cover the whole. Assumes nothing.
+-- Laws of the test of equality: what it says, a turn of a loop over bytes or over parts, parts that cover the whole.
+-- Assumes nothing.
 use Prim.Native.Nat.{ℕ, _+_, _≤_, _<_}
 use mathlib.Core.Path.{_≡_, refl, sym, ap, _∙_}
 use mathlib.Core.Bool.{Bool, true, false, _&&_, false≢true}
@@ -24,7 +25,8 @@ equal-true [] (y ∷ ys) e = absurd (false≢true e)
 equal-true (x ∷ xs) [] e = absurd (false≢true e)
 equal-true (x ∷ xs) (y ∷ ys) e = go (eqb x y) refl e (equal-true xs ys)
   where
-    go : (t : Bool) → eqb x y ≡ t → (t && equalBytes xs ys) ≡ true → (equalBytes xs ys ≡ true → xs ≡ ys) → x ∷ xs ≡ y ∷ ys
+    go : (t : Bool) → eqb x y ≡ t → (t && equalBytes xs ys) ≡ true → (equalBytes xs ys ≡ true → xs ≡ ys)
+        → x ∷ xs ≡ y ∷ ys
     go true q r f = let p : x ≡ y = eqb-true x y q in let z : xs ≡ ys = f r in cc
     go false q r f = absurd (false≢true r)
 

@@ -32,7 +32,8 @@ out-done src dst d h e = ap (out Done) e ∙ sym (copy-done src dst h)
 -- ---- parts that cover the whole
 
 -- the rest of a list, written over one as long that has its first elements already
-pub overwrite-rest : (s m : List ℕ) (f : ℕ) → f ≤ length s → length s ≡ length m → take f m ≡ take f s → overwrite f (drop f s) m ≡ s
+pub overwrite-rest : (s m : List ℕ) (f : ℕ) → f ≤ length s → length s ≡ length m → take f m ≡ take f s
+    → overwrite f (drop f s) m ≡ s
 overwrite-rest s m f h l e =
     let n : f + length (drop f s) ≡ length m = simp length-drop (omega arith) in
     overwrite-parts f (drop f s) m (omega arith)

@@ -1,10 +1,10 @@
 // Bytes copied between slices of equal length (fastcpy.rs of the Rust crate): short ones by words that may overlap,
 // instead of going on with what is left after the first ones.
 //
-// It promises, for any two slices, exactly the answer and what the destination holds afterwards: unequal lengths, a panic there,
-// are refusal 9, and nothing is written. `copy_in`, which writes to a place of a memory, asks that there is room: the layers above
-// have shown that before they call. The AVX branch is not carried over. It uses limits (what an answer says), numbers
-// and spans.
+// It promises, for any two slices, exactly the answer and what the destination holds afterwards: unequal lengths, a
+// panic there, are refusal 9, and nothing is written. `copy_in`, which writes to a place of a memory, asks that there
+// is room: the layers above have shown that before they call. The AVX branch is not carried over. It uses limits (what
+// an answer says), numbers and spans.
 ghost use mathlib.Core.Bool.{true};
 ghost use mathlib.Core.Path.{_≡_};
 ghost use Prim.Native.Nat.{_+_, _≤_, _<_};

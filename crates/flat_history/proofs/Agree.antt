@@ -14,21 +14,21 @@ use Rattle.memory_arena.specs.declared.Allocated.{Allocated}
 use Rattle.memory_arena.specs.declared.Allocated.the-variants.{At, NoRoom, Refused}
 use Rattle.memory_arena.specs.Pages.{roomFor}
 use Rattle.memory_arena.proofs.Laws.{sensible-facts}
-use Rattle.expull.specs.Header.{fresh}
-use Rattle.expull.specs.Append.{planOf}
+use Rattle.expull_header.specs.Header.{fresh}
+use Rattle.expull_append.specs.Append.{planOf}
 use Rattle.entries.specs.Log.{Entry, entry, joinedIn}
 use Rattle.entries.specs.Form.{encodedAll}
-use Rattle.store.specs.declared.State.{State}
-use Rattle.store.specs.declared.Lookup.{Lookup}
-use Rattle.store.specs.declared.Lookup.the-variants.{Failed}
-use Rattle.store.specs.declared.Name.{Name}
-use Rattle.store.specs.declared.Name.the-variants.{TooLong, Nameless, Proper}
-use Rattle.store.specs.Name.{nameLimitOf, nameKind, byKind}
-use Rattle.store.specs.Look.{Lent, onLookup, onLookupRead, lengthAt, readAt, Read, lookupOf, lengthOf, readOf}
-use Rattle.store.specs.Append.{isCrowded}
-use Rattle.store.proofs.Whole.{whole-facts}
-use Rattle.store.proofs.Guard.{kind-long, kind-nameless}
-use Rattle.store.specs.Said.{saidAnswer}
+use Rattle.store_state.specs.declared.State.{State}
+use Rattle.store_look.specs.declared.Lookup.{Lookup}
+use Rattle.store_look.specs.declared.Lookup.the-variants.{Failed}
+use Rattle.store_state.specs.declared.Name.{Name}
+use Rattle.store_state.specs.declared.Name.the-variants.{TooLong, Nameless, Proper}
+use Rattle.store_state.specs.Name.{nameLimitOf, nameKind, byKind}
+use Rattle.store_look.specs.Look.{Lent, onLookup, onLookupRead, lengthAt, readAt, Read, lookupOf, lengthOf, readOf}
+use Rattle.store_append.specs.Append.{isCrowded}
+use Rattle.store_state.proofs.Whole.{whole-facts}
+use Rattle.store_state.proofs.Guard.{kind-long, kind-nameless}
+use Rattle.store_look.specs.Said.{saidAnswer}
 use Rattle.history.specs.History.{World, Call, appends, play, Born, logOf, askedFor, joined}
 use Rattle.history.specs.Due.{shapeOf, dueBlocks, dueRecord, dueList, dueNew, dueBy, due}
 use Rattle.history.specs.Numbers.{numberOf}

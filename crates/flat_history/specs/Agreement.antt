@@ -7,8 +7,8 @@ use mathlib.Core.List.{List, []}
 use lib.ListN.{length}
 use Rattle.limits.specs.Limits.{nameLimit}
 use Rattle.entries.specs.Log.{Entry}
-use Rattle.store.specs.declared.Lookup.the-variants.{Failed}
-use Rattle.store.specs.Look.{lookupOf}
+use Rattle.store_look.specs.declared.Lookup.the-variants.{Failed}
+use Rattle.store_look.specs.Look.{lookupOf}
 use Rattle.history.specs.History.{World, Call, play, logOf, askedFor}
 use Rattle.history.specs.Promises.{ReadsAbsent}
 use Rattle.flat_store.specs.Calls.{absent, refuses, heldOf}

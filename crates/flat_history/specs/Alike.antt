@@ -5,11 +5,11 @@ use mathlib.Core.Path.{_≡_}
 use mathlib.Core.Bool.{cond}
 use mathlib.Core.List.{List, [], _∷_}
 use Rattle.limits.specs.Refusals.{Said, answered, refused, standing, absent, isAmong}
-use Rattle.store.specs.declared.Lookup.{Lookup}
-use Rattle.store.specs.declared.Lookup.the-variants.{At, Missing, Failed}
-use Rattle.store.specs.Said.{saidAnswer}
-use Rattle.store.specs.Look.{lookupOf, lengthOf, readOf}
-use Rattle.store.specs.Append.{declined}
+use Rattle.store_look.specs.declared.Lookup.{Lookup}
+use Rattle.store_look.specs.declared.Lookup.the-variants.{At, Missing, Failed}
+use Rattle.store_look.specs.Said.{saidAnswer}
+use Rattle.store_look.specs.Look.{lookupOf, lengthOf, readOf}
+use Rattle.store_append.specs.Append.{declined}
 use Rattle.history.specs.History.{World, appends, appendIn}
 use Rattle.history.specs.Numbers.{numberOf}
 use Rattle.entries.specs.Log.{entry}

@@ -4,9 +4,9 @@ use mathlib.Core.List.{List, [], _∷_}
 use lib.Dec.{lit<}
 use lib.ListN.{replicate}
 use Rattle.shared_arena_hashmap.specs.Buckets.{cleared}
-use Rattle.store.specs.Create.{freshState, createOf}
-use Rattle.store.specs.Look.{lent}
-use Rattle.store.specs.Append.{appendOf}
+use Rattle.store_create.specs.Create.{freshState, createOf}
+use Rattle.store_look.specs.Look.{lent}
+use Rattle.store_append.specs.Append.{appendOf}
 use Rattle.history.specs.History.{World, Born, Call, appends, looksUp, logOf, askedFor}
 use Rattle.flat_store.specs.Calls.{appendOf as flatAppendOf}
 use Rattle.flat_store.specs.History.{flat, logOf as flatLog}
@@ -30,6 +30,7 @@ calls =
     appends (65 ∷ []) (1 ∷ 2 ∷ 3 ∷ []) ∷ looksUp (66 ∷ []) ∷ appends (66 ∷ []) [] ∷ appends (65 ∷ []) (4 ∷ []) ∷ []
 
 -- RULES AH10. On that store, and on a flat buffer of 25 bytes, which they just fill
-pub unrefused-case : WidePages start × (Unrefused calls start × FlatUnrefused (askedFor calls) (flat (replicate 25 7) 0))
+pub unrefused-case : WidePages start
+    × (Unrefused calls start × FlatUnrefused (askedFor calls) (flat (replicate 25 7) 0))
 unfolding askedFor logOf appendOf flatLog flatAppendOf cleared
 unrefused-case = (lit< tt, (refl, refl))

@@ -17,8 +17,7 @@ use Rattle.entries.specs.Form.{byteLimit, encoded, entrySize, Met, entriesOf}
 use Rattle.flat_store.specs.declared.Appended.the-variants.{Accepted, Declined}
 use Rattle.flat_store.specs.declared.Answer.the-variants.{Reading, TooShort}
 use Rattle.flat_store.specs.Calls.{Out, out, hasRoom, appendOf, Held, stands, absent, refuses, heldBy, heldIn}
-use Rattle.flat_store.specs.Calls.{heldOf, lookupBy, lengthBy, reading, readBy, lookupOf}
-use Rattle.flat_store.specs.Calls.{lengthOf, readOf}
+use Rattle.flat_store.specs.Calls.{heldOf, lookupBy, lengthBy, reading, readBy, lookupOf, lengthOf, readOf}
 use Rattle.flat_store.specs.Said.{saidLookup, saidAnswer}
 
 -- ---- room

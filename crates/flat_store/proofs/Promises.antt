@@ -13,8 +13,7 @@ use Rattle.entries.specs.Log.{Entry}
 use Rattle.flat_store.specs.declared.Appended.the-variants.{Declined}
 use Rattle.flat_store.specs.declared.Answer.{Answer}
 use Rattle.flat_store.specs.declared.Answer.the-variants.{Absent, Length, Reading, TooShort, Refused}
-use Rattle.flat_store.specs.Calls.{out, appendOf, Held, stands, absent, refuses, heldOf, reading, readBy}
-use Rattle.flat_store.specs.Calls.{readOf}
+use Rattle.flat_store.specs.Calls.{out, appendOf, Held, stands, absent, refuses, heldOf, reading, readBy, readOf}
 use Rattle.flat_store.specs.History.{Flat, flat, play, logOf, Holds}
 use Rattle.flat_store.specs.Promises.{Promises, Settled, FlatDemand3}
 use Rattle.flat_store.proofs.Calls.{append-any}

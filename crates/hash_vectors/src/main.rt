@@ -49,7 +49,7 @@ fn fill(key: &mut [u8], a: u64, b: u64, c: u64) {
 
 // The hash of the row's key, made in the lent memory.
 fn hash_of(r: Row, key: &mut [u8]) -> u32 {
-    let n = text::least(r.length as usize, key.len());
+    let n = numbers::least(r.length as usize, key.len());
     fill(&mut key[0..n], r.a, r.b, r.c);
     murmurhash2::murmurhash2(&key[0..n], words::low_32(r.seed))
 }

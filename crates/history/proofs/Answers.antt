@@ -14,17 +14,19 @@ use Rattle.memory_arena.specs.declared.Allocated.{Allocated}
 use Rattle.memory_arena.specs.declared.Allocated.the-variants.{At, NoRoom, Refused}
 use Rattle.memory_arena.specs.Pages.{roomFor}
 use Rattle.shared_arena_hashmap.specs.declared.Met.the-variants.{Empty, Standing, Lap}
-use Rattle.expull.specs.declared.Header.{Header}
-use Rattle.expull.specs.Header.{fresh}
-use Rattle.expull.specs.Append.{Writing, writing, appended, goodTail}
-use Rattle.store.specs.declared.Appended.the-variants.{Accepted}
-use Rattle.store.specs.declared.Name.{Name}
-use Rattle.store.specs.declared.Name.the-variants.{TooLong, Nameless, Proper}
-use Rattle.store.specs.Name.{nameKind}
-use Rattle.store.specs.Look.{Lent, checked, walkOf, headerOf, headerSound}
-use Rattle.store.specs.Append.{Out, out, declined, isSaturated, isCrowded, standingWritten, newWritten, onKeyRoom, appendNew}
-use Rattle.store.proofs.Cases.{append-3, append-13, append-met, met-standing, met-empty, met-lap, new-5, new-room}
-use Rattle.store.proofs.Cases.{standing-on}
+use Rattle.expull_header.specs.declared.Header.{Header}
+use Rattle.expull_header.specs.Header.{fresh}
+use Rattle.expull_append.specs.Append.{Writing, writing, appended, goodTail}
+use Rattle.store_append.specs.declared.Appended.the-variants.{Accepted}
+use Rattle.store_state.specs.declared.Name.{Name}
+use Rattle.store_state.specs.declared.Name.the-variants.{TooLong, Nameless, Proper}
+use Rattle.store_state.specs.Name.{nameKind}
+use Rattle.records.specs.Record.{headerOf, headerSound}
+use Rattle.store_look.specs.Look.{Lent, checked, walkOf}
+use Rattle.store_append.specs.Append.{Out, out, declined, isSaturated, isCrowded, standingWritten, newWritten}
+use Rattle.store_append.specs.Append.{onKeyRoom, appendNew}
+use Rattle.store_append.proofs.Cases.{append-3, append-13, append-met, met-standing, met-empty, met-lap, new-5}
+use Rattle.store_append.proofs.Cases.{new-room, standing-on}
 use Rattle.store.proofs.Kept.{append-whole}
 use Rattle.history_lanes.specs.Lane.{arenaOf, HeaderFits}
 use Rattle.history_lanes.proofs.Readings.{lane-header, lane-tail}
@@ -44,7 +46,8 @@ module _ {w : World} {G : Ghosts} (S : Sound w G) where
   sound-records k m = (record-good (S .records k m) (key-stands S), record-key (S .records k m))
 
   pub fits : (name : List ℕ) → Stands G name → HeaderFits (G .header name)
-  fits name M = lane-header (w .memory .lists) (w .state .«list_arena») (G .header name) (G .blocks name) (S .lanes name M)
+  fits name M =
+      lane-header (w .memory .lists) (w .state .«list_arena») (G .header name) (G .blocks name) (S .lanes name M)
 
   pub header-is : (name : List ℕ) → Stands G name → headerOf (w .memory .keys) (G .place name) ≡ G .header name
   header-is name M = record-header (S .records name M) (key-stands S) (fits name M)
@@ -58,10 +61,12 @@ module _ {w : World} {G : Ghosts} (S : Sound w G) where
 
   -- a lap finds no empty bucket only where the table is saturated
   pub walk-misses : (name : List ℕ) → (Stands G name → ⊥)
-      → (walkOf (w .state) (w .memory) name .met ≡ Empty) ⊎ ((walkOf (w .state) (w .memory) name .met ≡ Lap) × (isSaturated (w .state) ≡ true))
+      → (walkOf (w .state) (w .memory) name .met ≡ Empty) ⊎
+      ((walkOf (w .state) (w .memory) name .met ≡ Lap) × (isSaturated (w .state) ≡ true))
   unfolding walkOf
   walk-misses name M =
-      ⊎-elim (λ e. inl e) (λ e. inr (e .0, le-leb (w .state .buckets) (2 * w .state .keys) (omega (arith, e .1, S .counted))))
+      ⊎-elim (λ e. inl e) (λ e. inr
+      (e .0, le-leb (w .state .buckets) (2 * w .state .keys) (omega (arith, e .1, S .counted))))
       (misses (S .table) (w .memory .keys) (w .state .«key_arena») sound-records name M)
 
 -- ---- an append
@@ -96,7 +101,8 @@ module _ {w : World} {G : Ghosts} (S : Sound w G) (name bytes : List ℕ) where
   }
 
   -- what is accepted passes the next call's check
-  accepted-whole : (v : World) → appendIn w name bytes ≡ out (Accepted (v .state)) (v .memory) → checked (v .state) (v .memory) ≡ true
+  accepted-whole : (v : World) → appendIn w name bytes ≡ out (Accepted (v .state)) (v .memory)
+      → checked (v .state) (v .memory) ≡ true
   accepted-whole v p =
       subst (λ (m : Lent). checked (v .state) m ≡ true) (ap (λ (o : Out). o .memory) p)
       (append-whole (w .state) (w .memory) name bytes (v .state) (ap (λ (o : Out). o .answer) p))
@@ -110,9 +116,15 @@ module _ {w : World} {G : Ghosts} (S : Sound w G) (name bytes : List ℕ) where
     unfolding standingWritten
     answers-written M none e p = inl (record { some-number = λ z. omega arith; said = p })
     answers-written M (some v) e p =
-        inr (record { no-number = refl; world = standing-left S name bytes M v e; said = p; took = took-standing S name bytes M v e (accepted-whole (standing-left S name bytes M v e) p) })
+        inr (record {
+          no-number = refl;
+          world = standing-left S name bytes M v e;
+          said = p;
+          took = took-standing S name bytes M v e (accepted-whole (standing-left S name bytes M v e) p);
+        })
 
-    pub answers-standing : Stands G name → Answers w G name bytes (dueList (w .state) (w .memory) (G .header name) (length bytes))
+    pub answers-standing : Stands G name
+        → Answers w G name bytes (dueList (w .state) (w .memory) (G .header name) (length bytes))
     unfolding dueList
     answers-standing M =
         rw (lane-plan (w .memory .lists) (w .state .«list_arena») (G .header name) bytes)
@@ -124,7 +136,8 @@ module _ {w : World} {G : Ghosts} (S : Sound w G) (name bytes : List ℕ) where
         (header-fine S name M)
         (ap (goodTail (w .state .«list_arena»)) (header-is S name M)
         ∙ lane-tail (w .memory .lists) (w .state .«list_arena») (G .header name) (G .blocks name) (S .lanes name M))
-        (ap (λ (h : Header). appended bytes (writing (w .memory .lists) (w .state .«list_arena») h)) (header-is S name M))))
+        (ap (λ (h : Header). appended bytes (writing (w .memory .lists) (w .state .«list_arena») h))
+        (header-is S name M))))
 
     -- a new name
     module _ (M : Stands G name → ⊥) where
@@ -138,7 +151,8 @@ module _ {w : World} {G : Ghosts} (S : Sound w G) (name bytes : List ℕ) where
           (walk-misses S name M)
 
       new-written : (loose : isCrowded (w .state) ≡ false) (at : ℕ) (ka : Arena)
-          → roomFor (w .state .«key_arena») (length (w .memory .keys)) (length name + recordExtra) ≡ At at ka → (o : Option Writing)
+          → roomFor (w .state .«key_arena») (length (w .memory .keys)) (length name + recordExtra) ≡ At at ka
+          → (o : Option Writing)
           → appended bytes (writing (w .memory .lists) (w .state .«list_arena») fresh) ≡ o
           → appendIn w name bytes ≡ newWritten o (w .state) (w .memory) name at ka
           → Answers w G name bytes (dueBlocks (arenaOf o))
@@ -161,7 +175,8 @@ module _ {w : World} {G : Ghosts} (S : Sound w G) (name bytes : List ℕ) where
       unfolding onKeyRoom dueList
       new-roomed loose (At at ka) r p =
           rw (lane-plan (w .memory .lists) (w .state .«list_arena») fresh bytes)
-          (new-written loose at ka r (appended bytes (writing (w .memory .lists) (w .state .«list_arena») fresh)) refl p)
+          (new-written loose at ka r
+          (appended bytes (writing (w .memory .lists) (w .state .«list_arena») fresh)) refl p)
       new-roomed loose NoRoom r p = inl (record { some-number = λ z. omega arith; said = p })
       new-roomed loose (Refused n) r p = inl (record { some-number = λ z. omega arith; said = p })
 
@@ -171,9 +186,14 @@ module _ {w : World} {G : Ghosts} (S : Sound w G) (name bytes : List ℕ) where
         where
           go : (b : Bool) → isCrowded (w .state) ≡ b
               → Answers w G name bytes
-              (cond b 5 (dueRecord (roomFor (w .state .«key_arena») (length (w .memory .keys)) (length name + recordExtra))
+              (cond b 5 (dueRecord (roomFor (w .state .«key_arena») (length (w .memory .keys))
+              (length name + recordExtra))
               (dueList (w .state) (w .memory) fresh (length bytes))))
-          go true e = inl (record { some-number = λ z. omega arith; said = goes-new ∙ new-5 (w .state) (w .memory) name bytes e })
+          go true e =
+              inl (record {
+                some-number = λ z. omega arith;
+                said = goes-new ∙ new-5 (w .state) (w .memory) name bytes e;
+              })
           go false e =
               new-roomed e (roomFor (w .state .«key_arena») (length (w .memory .keys)) (length name + recordExtra)) refl
               (goes-new ∙ new-room (w .state) (w .memory) name bytes e

@@ -2,7 +2,7 @@
 use Prim.Native.Nat.{ℕ}
 use mathlib.Core.List.{List, [], _∷_}
 use Rattle.memory_arena.specs.declared.Arena.{Arena}
-use Rattle.expull.specs.declared.Header.{Header}
+use Rattle.expull_header.specs.declared.Header.{Header}
 use Rattle.history_lanes.specs.Lane.{wideOn, Below, Clear, TipClear, usedEnd, After}
 use Rattle.history_lanes.proofs.Blocks.{apart-sym}
 use Rattle.history.specs.Sound.{BlocksApart}
@@ -31,7 +31,9 @@ apart-tip [] js b = tt
 apart-tip (x ∷ ks) js b = b .0
 
 -- what an append does to its own list leaves another's blocks apart from it
-pub apart-after : (m : List ℕ) (a : Arena) (h : Header) (ks bs m′ : List ℕ) (a′ : Arena) (h′ : Header) (ks′ : List ℕ) → After m a h ks bs m′ a′ h′ ks′
+pub apart-after : (m : List ℕ) (a : Arena) (h : Header) (ks bs m′ : List ℕ) (a′ : Arena) (h′ : Header) (ks′ : List ℕ)
+    → After m a h ks bs m′ a′ h′ ks′
     → (js : List ℕ) → Below (usedEnd a) js → BlocksApart js ks → BlocksApart js ks′
 apart-after m a h ks bs m′ a′ h′ ks′ A [] b c = tt
-apart-after m a h ks bs m′ a′ h′ ks′ A (y ∷ js) b c = (A .back y (wideOn js) (b .0) (c .0), apart-after m a h ks bs m′ a′ h′ ks′ A js (b .1) (c .1))
+apart-after m a h ks bs m′ a′ h′ ks′ A (y ∷ js) b c =
+    (A .back y (wideOn js) (b .0) (c .0), apart-after m a h ks bs m′ a′ h′ ks′ A js (b .1) (c .1))

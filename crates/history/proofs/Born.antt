@@ -10,12 +10,12 @@ use Rattle.murmurhash2.specs.Murmur.{murmurHash2}
 use Rattle.shared_arena_hashmap.specs.Power.{roundedDown}
 use Rattle.shared_arena_hashmap.specs.Buckets.{cleared}
 use Rattle.shared_arena_hashmap.proofs.Laws.{power-facts, rounded-is-power}
-use Rattle.expull.specs.Header.{fresh}
-use Rattle.store.specs.declared.State.{State}
-use Rattle.store.specs.declared.Created.the-variants.{Made, Barred}
-use Rattle.store.specs.Create.{Out, out, creatable, freshState}
-use Rattle.store.specs.Look.{lent, checked}
-use Rattle.store.proofs.Whole.{creatable-room, create-made, create-barred}
+use Rattle.expull_header.specs.Header.{fresh}
+use Rattle.store_state.specs.declared.State.{State}
+use Rattle.store_create.specs.declared.Created.the-variants.{Made, Barred}
+use Rattle.store_create.specs.Create.{Out, out, creatable, freshState}
+use Rattle.store_look.specs.Look.{lent, checked}
+use Rattle.store_create.proofs.Creation.{creatable-room, create-made, create-barred}
 use Rattle.store.proofs.Kept.{create-whole}
 use Rattle.history_names.proofs.Grow.{clears, clears-none, clears-count}
 use Rattle.history.specs.History.{World, Born}
@@ -30,9 +30,14 @@ module _ (capacity seed size : ℕ) (table keys lists : List ℕ) where
   l = roundedDown capacity
 
   abbrev pub start : World
-  start = record { state = freshState seed size (length table) (length keys) (length lists) l; memory = lent (cleared 0 l table) keys lists }
+  start =
+      record {
+        state = freshState seed size (length table) (length keys) (length lists) l;
+        memory = lent (cleared 0 l table) keys lists;
+      }
 
-  start-whole : creatable capacity size (length table) (length keys) (length lists) ≡ true → checked (start .state) (start .memory) ≡ true
+  start-whole : creatable capacity size (length table) (length keys) (length lists) ≡ true
+      → checked (start .state) (start .memory) ≡ true
   start-whole e =
       let p = create-made capacity seed size table (length keys) (length lists) e in
       subst (λ (t : List ℕ). checked (start .state) (lent t keys lists) ≡ true) (ap (λ (o : Out). o .table) p)
@@ -59,18 +64,25 @@ module _ (capacity seed size : ℕ) (table keys lists : List ℕ) where
       inside e = cc
 
   never : (t t′ : List ℕ) (s : State) → out (Barred 1) t ≡ out (Made s) t′ → ⊥
-  never t t′ s e = let q : Barred 1 ≡ Made s = ap (λ (o : Out). o .answer) e in let z : _≡_ {A = ℕ} 0 1 = cc in omega arith
+  never t t′ s e =
+      let q : Barred 1 ≡ Made s = ap (λ (o : Out). o .answer) e in let z : _≡_ {A = ℕ} 0 1 = cc in omega arith
 
   -- what is born is the start
-  pub born-start : (w : World) → Born capacity seed size table keys lists w → (creatable capacity size (length table) (length keys) (length lists) ≡ true) × (start ≡ w)
+  pub born-start : (w : World) → Born capacity seed size table keys lists w
+      → (creatable capacity size (length table) (length keys) (length lists) ≡ true) × (start ≡ w)
   born-start w B = go (creatable capacity size (length table) (length keys) (length lists)) refl
     where
       go : (b : Bool) → creatable capacity size (length table) (length keys) (length lists) ≡ b
           → (creatable capacity size (length table) (length keys) (length lists) ≡ true) × (start ≡ w)
       go true e =
           let p = made-is (start .state) (w .state) (cleared 0 l table) (w .memory .table)
-          (sym (create-made capacity seed size table (length keys) (length lists) e) ∙ B .made) in
-          (e, λ i. record { state = p .0 i; memory = lent (p .1 i) (sym (B .keys-as-lent) i) (sym (B .lists-as-lent) i) })
+          (sym (create-made capacity seed size table (length keys) (length lists) e) ∙ B .made) in (
+            e,
+            λ i. record {
+              state = p .0 i;
+              memory = lent (p .1 i) (sym (B .keys-as-lent) i) (sym (B .lists-as-lent) i);
+            },
+          )
       go false e =
           absurd (never table (w .memory .table) (w .state)
           (sym (create-barred capacity seed size table (length keys) (length lists) e) ∙ B .made))

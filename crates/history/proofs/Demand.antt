@@ -1,4 +1,5 @@
--- The theorems: of every store that was born by an accepted creation, and of every list of calls on it. Assumes nothing.
+-- The theorems: of every store that was born by an accepted creation, and of every list of calls on it. Assumes
+-- nothing.
 use Prim.Native.Nat.{ℕ, _+_, _≤_, _<_}
 use mathlib.Core.Path.{_≡_, refl, sym, ap, _∙_, subst}
 use mathlib.Core.Logic.{inl, inr, _≢_}
@@ -13,16 +14,16 @@ use Rattle.limits.specs.Limits.{nameLimitFor}
 use Rattle.numbers.proofs.Tests.{same-test}
 use Rattle.murmurhash2.specs.Murmur.{murmurHash2}
 use Rattle.shared_arena_hashmap.specs.Power.{roundedDown}
-use Rattle.store.specs.declared.Name.{Name}
-use Rattle.store.specs.declared.Name.the-variants.{TooLong, Nameless, Proper}
-use Rattle.store.specs.declared.Lookup.the-variants.{Failed}
-use Rattle.store.specs.declared.Answer.the-variants.{Found}
-use Rattle.store.specs.declared.Outcome.the-variants.{Block}
-use Rattle.store.specs.Name.{nameLimitOf, nameKind, byKind}
-use Rattle.store.specs.Look.{walkOf, lookupOf, findBlockOf}
-use Rattle.store.specs.Append.{Out}
-use Rattle.store.proofs.Guard.{kind-long}
-use Rattle.store.proofs.Found.{lookup-3}
+use Rattle.store_state.specs.declared.Name.{Name}
+use Rattle.store_state.specs.declared.Name.the-variants.{TooLong, Nameless, Proper}
+use Rattle.store_look.specs.declared.Lookup.the-variants.{Failed}
+use Rattle.store_look.specs.declared.Answer.the-variants.{Found}
+use Rattle.store_look.specs.declared.Outcome.the-variants.{Block}
+use Rattle.store_state.specs.Name.{nameLimitOf, nameKind, byKind}
+use Rattle.store_look.specs.Look.{walkOf, lookupOf, findBlockOf}
+use Rattle.store_append.specs.Append.{Out}
+use Rattle.store_state.proofs.Guard.{kind-long}
+use Rattle.store_look.proofs.Found.{lookup-3}
 use Rattle.history_names.proofs.Grow.{clears-count}
 use Rattle.history_names.proofs.Lookup.{looks-few}
 use Rattle.history.specs.History.{World, Call, appends, looksUp, asksLength, reads, findsBlock, showsBlock}
@@ -56,7 +57,8 @@ due-declines w name bytes n D = record {
   refused = λ f. D .said;
 }
 
-due-answers : (w : World) (G : Ghosts) (name bytes : List ℕ) (n : ℕ) → Answers w G name bytes n → AnswersDue w name bytes n
+due-answers : (w : World) (G : Ghosts) (name bytes : List ℕ) (n : ℕ) → Answers w G name bytes n
+    → AnswersDue w name bytes n
 due-answers w G name bytes n (inl D) = due-declines w name bytes n D
 due-answers w G name bytes n (inr A) = record {
   said = ap (λ (o : Out). appendedNumber (o .answer)) (A .said) ∙ sym (A .no-number);
@@ -69,8 +71,10 @@ due-stood : {w : World} {G : Ghosts} → Sound w G → (name bytes : List ℕ) �
     → AnswersDue w name bytes (dueBy (w .state) (w .memory) name o (length bytes))
 due-stood {w} {G} S name bytes proper none s = due-answers w G name bytes _ (answers-new S name bytes proper s)
 due-stood {w} {G} S name bytes proper (some bs) s =
-    let e : dueList (w .state) (w .memory) (G .header name) (length bytes) ≡ dueList (w .state) (w .memory) (shapeOf (length bs)) (length bytes) =
-    lane-due (w .memory .lists) (w .state .«list_arena») (G .header name) (G .blocks name) (S .lanes name (s .0)) (w .state) (w .memory) (length bytes)
+    let e : dueList (w .state) (w .memory) (G .header name) (length bytes)
+    ≡ dueList (w .state) (w .memory) (shapeOf (length bs)) (length bytes) =
+    lane-due (w .memory .lists) (w .state .«list_arena») (G .header name) (G .blocks name) (S .lanes name (s .0))
+    (w .state) (w .memory) (length bytes)
     ∙ ap (λ (l : List ℕ). dueList (w .state) (w .memory) (shapeOf (length l)) (length bytes)) (s .1) in
     subst (AnswersDue w name bytes) e (due-answers w G name bytes _ (answers-standing S name bytes proper (s .0)))
 
@@ -86,13 +90,16 @@ due-said {w} {G} S name bytes o s = go (nameKind (w .state) (length name)) refl
     go Proper e = due-stood S name bytes e o s
 
 -- an append that is accepted
-accepted-took : (w : World) (G : Ghosts) (name bytes : List ℕ) (n : ℕ) → Answers w G name bytes n → accepts w name bytes ≡ true → Accepts w G name bytes n
-accepted-took w G name bytes n (inl D) e = absurd (false≢true (sym (ap (λ (o : Out). isAccepted (o .answer)) (D .said)) ∙ e))
+accepted-took : (w : World) (G : Ghosts) (name bytes : List ℕ) (n : ℕ) → Answers w G name bytes n
+    → accepts w name bytes ≡ true → Accepts w G name bytes n
+accepted-took w G name bytes n (inl D) e =
+    absurd (false≢true (sym (ap (λ (o : Out). isAccepted (o .answer)) (D .said)) ∙ e))
 accepted-took w G name bytes n (inr A) e = A
 
 -- ---- the theorems
 
-module _ (capacity seed size : ℕ) (table keys lists : List ℕ) (w : World) (B : Born capacity seed size table keys lists w) where
+module _ (capacity seed size : ℕ) (table keys lists : List ℕ) (w : World)
+    (B : Born capacity seed size table keys lists w) where
   -- what a history leaves: a sound store, in which stands what the log says
   pub history : (calls : List Call) → Played w (nobody (roundedDown capacity)) calls
   history calls = played (born-sound capacity seed size table keys lists w B) calls
@@ -147,7 +154,8 @@ module _ (capacity seed size : ℕ) (table keys lists : List ℕ) (w : World) (B
 
   -- an append is accepted or refused exactly as it is due
   pub refusals-exact : (calls : List Call) (name bytes : List ℕ)
-      → AnswersDue (play calls w) name bytes (due (play calls w .state) (play calls w .memory) name (joined name calls w) (length bytes))
+      → AnswersDue (play calls w) name bytes
+      (due (play calls w .state) (play calls w .memory) name (joined name calls w) (length bytes))
   refusals-exact calls name bytes = due-said (history calls .sound) name bytes (joined name calls w) (says calls name)
 
   pub counts : (calls : List Call) → Counts (play calls w) (history calls .ghosts) (acceptedNames calls w)
@@ -165,10 +173,12 @@ module _ (capacity seed size : ℕ) (table keys lists : List ℕ) (w : World) (B
   names-exact calls = has-names (history calls .sound) (acceptedNames calls w) (counts calls)
 
   -- they are the names to which some append was accepted
-  pub names-joined : (calls : List Call) (name : List ℕ) → among name (acceptedNames calls w) ≡ isJoined (joined name calls w)
+  pub names-joined : (calls : List Call) (name : List ℕ)
+      → among name (acceptedNames calls w) ≡ isJoined (joined name calls w)
   names-joined calls name = go (joined name calls w) (says calls name)
     where
-      go : (o : Option (List ℕ)) → Says (play calls w) (history calls .ghosts) name o → among name (acceptedNames calls w) ≡ isJoined o
+      go : (o : Option (List ℕ)) → Says (play calls w) (history calls .ghosts) name o
+          → among name (acceptedNames calls w) ≡ isJoined o
       go none s = same-test _ _ (λ e. absurd (s (counts calls .only name e))) (λ e. absurd (false≢true e))
       go (some bs) s = counts calls .all name (s .0)
 
@@ -176,11 +186,14 @@ module _ (capacity seed size : ℕ) (table keys lists : List ℕ) (w : World) (B
   pub frames : (calls : List Call) (name bytes : List ℕ) → accepts (play calls w) name bytes ≡ true
       → (at : ℕ) × LeavesAlone (play calls w) (after (appends name bytes) (play calls w)) name (joined name calls w) at
   frames calls name bytes e =
-      let A = accepted-took (play calls w) (history calls .ghosts) name bytes (answers-any (history calls .sound) name bytes .0)
+      let A = accepted-took (play calls w) (history calls .ghosts) name bytes
+      (answers-any (history calls .sound) name bytes .0)
       (answers-any (history calls .sound) name bytes .1) e in (
         A .took .ghosts .place name,
-        subst (λ (o : Out). LeavesAlone (play calls w) (left o) name (joined name calls w) (A .took .ghosts .place name)) (sym (A .said))
-            (leaves-alone (history calls .sound) name bytes (A .world) (A .took) (joined name calls w) (says calls name)),
+        subst (λ (o : Out). LeavesAlone (play calls w) (left o) name (joined name calls w)
+            (A .took .ghosts .place name)) (sym (A .said))
+            (leaves-alone (history calls .sound) name bytes (A .world) (A .took) (joined name calls w)
+            (says calls name)),
       )
 
   -- the calls' numbers

@@ -10,9 +10,9 @@ use lib.ListN.{getD}
 use Rattle.limits.specs.Limits.{linkSize}
 use Rattle.spans.specs.Span.{readSpan, Apart}
 use Rattle.spans.proofs.Laws.{span-at}
-use Rattle.expull.specs.declared.Header.{Header}
-use Rattle.expull.specs.Header.{blockSize, blockCount}
-use Rattle.expull.specs.Blocks.{blockPlace}
+use Rattle.expull_header.specs.declared.Header.{Header}
+use Rattle.expull_header.specs.Header.{blockSize, blockCount}
+use Rattle.expull_walk.specs.Blocks.{blockPlace}
 use Rattle.history.specs.Frames.{Kept, Differs, Within, ApartFromBlocks, InBlocks}
 
 -- a span of one is a byte

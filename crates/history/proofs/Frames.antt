@@ -15,23 +15,23 @@ use Rattle.spans.specs.Span.{Apart}
 use Rattle.memory_arena.proofs.Laws.{standing-facts}
 use Rattle.murmurhash2.specs.Murmur.{murmurHash2}
 use Rattle.shared_arena_hashmap.specs.Power.{grownLength}
-use Rattle.shared_arena_hashmap.specs.Probe.{valuePlace}
-use Rattle.expull.specs.declared.Header.{Header}
-use Rattle.expull.specs.Header.{blockCount}
-use Rattle.expull.specs.Blocks.{blockPlace, blockLength}
-use Rattle.store.specs.declared.State.{State}
-use Rattle.store.specs.declared.Lookup.{Lookup}
-use Rattle.store.specs.declared.Lookup.the-variants.{At}
-use Rattle.store.specs.declared.Answer.{Answer}
-use Rattle.store.specs.declared.Answer.the-variants.{Absent, Found, Refused}
-use Rattle.store.specs.declared.Outcome.the-variants.{Block, NoSuchBlock}
-use Rattle.store.specs.State.{firstOf}
-use Rattle.store.specs.Name.{nameLimitOf}
-use Rattle.store.specs.Look.{onLookup, headerOf, blockAt, findBlockOf}
-use Rattle.store.specs.Append.{grows, grownState, tableGrown}
-use Rattle.store.proofs.Guard.{kind-long}
-use Rattle.store.proofs.Found.{lookup-3}
-use Rattle.store.proofs.Cases.{state-stays, state-grows, table-stays}
+use Rattle.records.specs.Record.{valuePlace, headerOf}
+use Rattle.expull_header.specs.declared.Header.{Header}
+use Rattle.expull_header.specs.Header.{blockCount}
+use Rattle.expull_walk.specs.Blocks.{blockPlace, blockLength}
+use Rattle.store_state.specs.declared.State.{State}
+use Rattle.store_look.specs.declared.Lookup.{Lookup}
+use Rattle.store_look.specs.declared.Lookup.the-variants.{At}
+use Rattle.store_look.specs.declared.Answer.{Answer}
+use Rattle.store_look.specs.declared.Answer.the-variants.{Absent, Found, Refused}
+use Rattle.store_look.specs.declared.Outcome.the-variants.{Block, NoSuchBlock}
+use Rattle.store_state.specs.State.{firstOf}
+use Rattle.store_state.specs.Name.{nameLimitOf}
+use Rattle.store_look.specs.Look.{onLookup, blockAt, findBlockOf}
+use Rattle.store_append.specs.Append.{grows, grownState, tableGrown}
+use Rattle.store_state.proofs.Guard.{kind-long}
+use Rattle.store_look.proofs.Found.{lookup-3}
+use Rattle.store_append.proofs.Cases.{state-stays, state-grows, table-stays}
 use Rattle.history_lanes.specs.Lane.{usedEnd}
 use Rattle.history_names.specs.Table.{OneBucket}
 use Rattle.history_names.proofs.Lookup.{decide-name, decide-member}
@@ -55,17 +55,20 @@ record BlockTold (w : World) (G : Ghosts) (j : List ℕ) (i p n : ℕ) : Type 0 
   length-is : n ≡ blockLength (G .header j) i
 
 -- an answer that is no block's place
-not-block : {A : Type 0} (x : Answer) (p n : ℕ) → x ≡ Found (Block p n) → (x ≡ Absent) ⊎ (x ≡ Found NoSuchBlock) ⊎ (x ≡ Refused 3 0) → A
+not-block : {A : Type 0} (x : Answer) (p n : ℕ) → x ≡ Found (Block p n)
+    → (x ≡ Absent) ⊎ (x ≡ Found NoSuchBlock) ⊎ (x ≡ Refused 3 0) → A
 not-block x p n e (inl f) = let z : _≡_ {A = ℕ} 0 1 = cc in absurd (omega arith)
 not-block x p n e (inr (inl f)) = let z : _≡_ {A = ℕ} 0 1 = cc in absurd (omega arith)
 not-block x p n e (inr (inr f)) = let z : _≡_ {A = ℕ} 0 1 = cc in absurd (omega arith)
 
-told-block : {w : World} {G : Ghosts} → Sound w G → (j : List ℕ) (i p n : ℕ) → findBlockOf (w .state) (w .memory) j i ≡ Found (Block p n) → BlockTold w G j i p n
+told-block : {w : World} {G : Ghosts} → Sound w G → (j : List ℕ) (i p n : ℕ)
+    → findBlockOf (w .state) (w .memory) j i ≡ Found (Block p n) → BlockTold w G j i p n
 unfolding findBlockOf
 told-block {w} {G} S j i p n e = go (decide-member j (G .names))
   where
     absent : (Stands G j → ⊥) → (b : Bool) → leb (length j) (nameLimitOf (w .state)) ≡ b → BlockTold w G j i p n
-    absent f true l = not-block (findBlockOf (w .state) (w .memory) j i) p n e (inl (reads-absent S j (leb-true _ _ l) f .no-block i))
+    absent f true l =
+        not-block (findBlockOf (w .state) (w .memory) j i) p n e (inl (reads-absent S j (leb-true _ _ l) f .no-block i))
     absent f false l =
         not-block (findBlockOf (w .state) (w .memory) j i) p n e
         (inr (inr (ap (λ (x : Lookup). onLookup x (blockAt (w .state) (w .memory) i))
@@ -74,9 +77,12 @@ told-block {w} {G} S j i p n e = go (decide-member j (G .names))
     here : (M : Stands G j) (b : Bool) → ltb i (blockCount (G .header j)) ≡ b → BlockTold w G j i p n
     here M true l =
         let k : i < blockCount (G .header j) = ltb-true _ _ l in
-        let q : Found (Block p n) ≡ Found (Block (blockPlace (w .memory .lists) (G .header j .head) i) (blockLength (G .header j) i)) = sym e ∙ block-there S j M i k in
+        let q : Found (Block p n)
+        ≡ Found (Block (blockPlace (w .memory .lists) (G .header j .head) i) (blockLength (G .header j) i)) =
+        sym e ∙ block-there S j M i k in
         record { stands = M; below = k; place-is = cc; length-is = cc }
-    here M false l = not-block (findBlockOf (w .state) (w .memory) j i) p n e (inr (inl (block-past S j M i (ltb-false _ _ l))))
+    here M false l =
+        not-block (findBlockOf (w .state) (w .memory) j i) p n e (inr (inl (block-past S j M i (ltb-false _ _ l))))
 
     go : Dec (Stands G j) → BlockTold w G j i p n
     go (yes M) = here M (ltb i (blockCount (G .header j))) refl
@@ -105,7 +111,8 @@ module _ {w : World} {G : Ghosts} (S : Sound w G) (name bytes : List ℕ) (w′ 
   m′ = w′ .memory .lists
 
   lists-standing : (M : Stands G name) (q n : ℕ) → q + n ≤ usedEnd (w .state .«list_arena»)
-      → Apart (headerOf (w .memory .keys) (T .ghosts .place name) .tail) (headerOf (w .memory .keys) (T .ghosts .place name) .remaining + linkSize) q n → Kept m m′ q n
+      → Apart (headerOf (w .memory .keys) (T .ghosts .place name) .tail)
+      (headerOf (w .memory .keys) (T .ghosts .place name) .remaining + linkSize) q n → Kept m m′ q n
   lists-standing M q n u d =
       let e : headerOf (w .memory .keys) (T .ghosts .place name) ≡ L .header =
       ap (headerOf (w .memory .keys)) (L .place-kept M) ∙ header-is S name M ∙ sym (L .list-standing M .0) in
@@ -121,10 +128,12 @@ module _ {w : World} {G : Ghosts} (S : Sound w G) (name bytes : List ℕ) (w′ 
         standing-facts (w .state .«list_arena») (length m) (list-stands S) .in-memory,
       )))
 
-  lists-outside : (q n : ℕ) → ApartFromBlocks m′ (headerOf (w′ .memory .keys) (T .ghosts .place name)) q n → Kept m m′ q n
+  lists-outside : (q n : ℕ) → ApartFromBlocks m′ (headerOf (w′ .memory .keys) (T .ghosts .place name)) q n
+      → Kept m m′ q n
   lists-outside q n d =
       L .list .outside q n
-      (lane-clear m′ (w′ .state .«list_arena») (T .ghosts .header name) (T .ghosts .blocks name) (T .sound .lanes name (T .new)) q n
+      (lane-clear m′ (w′ .state .«list_arena») (T .ghosts .header name) (T .ghosts .blocks name)
+      (T .sound .lanes name (T .new)) q n
       (subst (λ (h : Header). ApartFromBlocks m′ h q n) (header-is (T .sound) name (T .new)) d))
 
   lists-filled : (j : List ℕ) (i p n : ℕ) → findBlockOf (w .state) (w .memory) j i ≡ Found (Block p n) → Kept m m′ p n
@@ -132,17 +141,20 @@ module _ {w : World} {G : Ghosts} (S : Sound w G) (name bytes : List ℕ) (w′ 
       let B = told-block S j i p n e in
       rw (B .place-is, B .length-is) (go B (decide-name j name))
     where
-      go : BlockTold w G j i p n → Dec (j ≡ name) → Kept m m′ (blockPlace m (G .header j .head) i) (blockLength (G .header j) i)
+      go : BlockTold w G j i p n → Dec (j ≡ name)
+          → Kept m m′ (blockPlace m (G .header j .head) i) (blockLength (G .header j) i)
       go B (yes q) =
           let M : Stands G name = subst (Stands G) q (B .stands) in
           let h = L .list-standing M in
           let g : L .header ≡ G .header j = h .0 ∙ ap (G .header) (sym q) in
           let b : L .blocks ≡ G .blocks j = h .1 ∙ ap (G .blocks) (sym q) in
           subst (λ (x : Header). Kept m m′ (blockPlace m (x .head) i) (blockLength x i)) g
-          (told-own m (w .state .«list_arena») (L .header) (L .blocks) bytes m′ (w′ .state .«list_arena») (T .ghosts .header name) (T .ghosts .blocks name)
+          (told-own m (w .state .«list_arena») (L .header) (L .blocks) bytes m′ (w′ .state .«list_arena»)
+          (T .ghosts .header name) (T .ghosts .blocks name)
           (L .list) (rw (g, b) (S .lanes j (B .stands))) i (rw g (B .below)))
       go B (no q) =
-          told-other m (w .state .«list_arena») (L .header) (L .blocks) bytes m′ (w′ .state .«list_arena») (T .ghosts .header name) (T .ghosts .blocks name)
+          told-other m (w .state .«list_arena») (L .header) (L .blocks) bytes m′ (w′ .state .«list_arena»)
+          (T .ghosts .header name) (T .ghosts .blocks name)
           (L .list) (G .header j) (G .blocks j) (S .lanes j (B .stands)) (L .list-clear j q (B .stands)) i (B .below)
 
   lists-unfilled : Kept m m′ (headerIn w′ (T .ghosts .place name) .tail)

@@ -1,4 +1,5 @@
--- The table of a sound store before a name is entered: grown where an append grows it, else as it is; the same names. Assumes nothing.
+-- The table of a sound store before a name is entered: grown where an append grows it, else as it is; the same names.
+-- Assumes nothing.
 use Prim.Native.Nat.{ℕ, _+_, _*_, _≤_, _<_}
 use mathlib.Core.Path.{_≡_, refl, sym, _∙_}
 use mathlib.Core.Logic.{inl, inr}
@@ -13,11 +14,12 @@ use Rattle.murmurhash2.specs.Murmur.{murmurHash2}
 use Rattle.shared_arena_hashmap.specs.Power.{grownLength}
 use Rattle.shared_arena_hashmap.specs.Buckets.{firstBucket}
 use Rattle.shared_arena_hashmap.specs.Grow.{grown}
-use Rattle.store.specs.declared.State.{State}
-use Rattle.store.specs.State.{lentBuckets, firstOf}
-use Rattle.store.specs.Append.{roomToGrow, isSaturated, isCrowded, grows, grownState, stateGrown, tableGrown}
-use Rattle.store.proofs.Whole.{Whole, whole-facts, first-in, grown-fits}
-use Rattle.store.proofs.Cases.{state-stays, state-grows, table-stays, table-grows}
+use Rattle.store_state.specs.declared.State.{State}
+use Rattle.store_state.specs.State.{lentBuckets, firstOf}
+use Rattle.store_append.specs.Append.{roomToGrow, isSaturated, isCrowded, grows, grownState, stateGrown, tableGrown}
+use Rattle.store_state.proofs.Whole.{Whole, whole-facts, first-in}
+use Rattle.store_append.proofs.Growth.{grown-fits}
+use Rattle.store_append.proofs.Cases.{state-stays, state-grows, table-stays, table-grows}
 use Rattle.history_names.specs.Table.{Names, Member, occupied, Table}
 use Rattle.history_names.proofs.Grow.{grows as grows-names}
 use Rattle.history.specs.History.{World}
@@ -26,9 +28,11 @@ use Rattle.history.specs.Sound.{Ghosts, Sound}
 -- the whole-state check of a sound store, clause by clause
 pub sound-whole : {w : World} {G : Ghosts} → Sound w G
     → Whole (w .state) (length (w .memory .table)) (length (w .memory .keys)) (length (w .memory .lists))
-sound-whole {w} S = whole-facts (w .state) (length (w .memory .table)) (length (w .memory .keys)) (length (w .memory .lists)) (S .whole)
+sound-whole {w} S =
+    whole-facts (w .state) (length (w .memory .table)) (length (w .memory .keys)) (length (w .memory .lists)) (S .whole)
 
--- a state and words that stand for the names of a sound store, at most half full but for one; not even half where the table isn't crowded
+-- a state and words that stand for the names of a sound store, at most half full but for one; not even half where the
+-- table isn't crowded
 pub record Grew (w : World) (G : Ghosts) (st : State) (t : List ℕ) : Type 0 where
   pub names : Names
   pub table : Table t (firstOf st) (st .buckets) (murmurHash2 (w .state .seed)) (G .place) names
@@ -61,20 +65,26 @@ module _ {w : World} {G : Ghosts} (S : Sound w G) where
         many = sym (S .counted);
         seed-is = refl;
         half = S .half;
-        room = λ c. leb-false (w .state .buckets) (2 * w .state .keys) (loose (isSaturated (w .state)) (roomToGrow (w .state)) e c);
+        room =
+            λ c. leb-false (w .state .buckets) (2 * w .state .keys)
+            (loose (isSaturated (w .state)) (roomToGrow (w .state)) e c);
       }
 
   does : grows (w .state) ≡ true
       → Grew w G (grownState (w .state))
-      (grown (w .state .buckets) (firstOf (w .state)) (firstOf (grownState (w .state))) (grownLength (w .state .buckets)) (w .memory .table))
+      (grown (w .state .buckets) (firstOf (w .state)) (firstOf (grownState (w .state)))
+      (grownLength (w .state .buckets)) (w .memory .table))
   does e =
       let st : State = w .state in
       let W = sound-whole S in
       let r : roomToGrow st ≡ true = both (isSaturated st) (roomToGrow st) e .1 in
       let f : st .buckets + grownLength (st .buckets) ≤ lentBuckets (st .words) = leb-true _ _ r in
-      let l : grownLength (st .buckets) ≤ lentBuckets (length (w .memory .table)) = rw (W .words-is) at (grown-fits st r) in
-      let N = grows-names (S .table) (firstOf (grownState st)) (grownLength (st .buckets)) (ends-apart (st .back) (lentBuckets (st .words)) (st .buckets) (grownLength (st .buckets)) f)
-      (omega arith) (omega (arith, S .half, S .counted)) (first-in (grownState st) (length (w .memory .table)) (W .words-is) l) in
+      let l : grownLength (st .buckets) ≤ lentBuckets (length (w .memory .table)) =
+      rw (W .words-is) at (grown-fits st r) in
+      let N = grows-names (S .table) (firstOf (grownState st)) (grownLength (st .buckets))
+      (ends-apart (st .back) (lentBuckets (st .words)) (st .buckets) (grownLength (st .buckets)) f)
+      (omega arith) (omega (arith, S .half, S .counted))
+      (first-in (grownState st) (length (w .memory .table)) (W .words-is) l) in
       record {
         names = N .0;
         table = N .1 .table;
@@ -89,6 +99,7 @@ module _ {w : World} {G : Ghosts} (S : Sound w G) where
   pub grew : Grew w G (stateGrown (w .state)) (tableGrown (w .state) (w .memory .table))
   grew = go (grows (w .state)) refl
     where
-      go : (b : Bool) → grows (w .state) ≡ b → Grew w G (stateGrown (w .state)) (tableGrown (w .state) (w .memory .table))
+      go : (b : Bool) → grows (w .state) ≡ b
+          → Grew w G (stateGrown (w .state)) (tableGrown (w .state) (w .memory .table))
       go true e = rw (state-grows (w .state) e, table-grows (w .state) (w .memory .table) e) (does e)
       go false e = rw (state-stays (w .state) e, table-stays (w .state) (w .memory .table) e) (stays e)

@@ -1,5 +1,5 @@
--- An accepted append leaves a sound store, to a standing name and to a new one: one lane has its bytes more, and every other is what it was.
--- Assumes nothing.
+-- An accepted append leaves a sound store, to a standing name and to a new one: one lane has its bytes more, and every
+-- other is what it was. Assumes nothing.
 use Prim.Native.Nat.{ℕ, suc, _+_, _-_, _≤_, _<_}
 use mathlib.Core.Path.{_≡_, refl, sym, ap, _∙_, subst}
 use mathlib.Core.Logic.{_⊎_, inl, inr, ⊎-elim}
@@ -19,22 +19,23 @@ use Rattle.memory_arena.specs.declared.Arena.{Arena}
 use Rattle.memory_arena.specs.declared.Allocated.the-variants.{At}
 use Rattle.memory_arena.specs.Address.{placeOf}
 use Rattle.memory_arena.specs.Pages.{standing, roomFor}
-use Rattle.memory_arena.proofs.Laws.{place-of, Room, room-size, room-facts, room-in, Sensible, sensible-facts, sensible-short}
+use Rattle.memory_arena.proofs.Laws.{place-of, Room, room-size, room-facts, room-in, Sensible, sensible-facts}
+use Rattle.memory_arena.proofs.Laws.{sensible-short}
 use Rattle.shared_arena_hashmap.specs.Power.{grownLength}
-use Rattle.shared_arena_hashmap.specs.Probe.{valuePlace}
+use Rattle.records.specs.Record.{valuePlace, recordBytes}
 use Rattle.shared_arena_hashmap.specs.Grow.{entered}
-use Rattle.expull.specs.declared.Header.{Header}
-use Rattle.expull.specs.Header.{fresh, headerBytes}
-use Rattle.expull.specs.Append.{Writing, writing, appended, planOf}
-use Rattle.expull.proofs.Laws.Header.{header-length}
-use Rattle.store.specs.declared.State.{State}
-use Rattle.store.specs.declared.Name.the-variants.{Proper}
-use Rattle.store.specs.State.{firstOf}
-use Rattle.store.specs.Name.{nameKind}
-use Rattle.store.specs.Look.{lent, checked}
-use Rattle.store.specs.Append.{isCrowded, grows, grownState, stateGrown, tableGrown, movedState, recordBytes}
-use Rattle.store.proofs.Guard.{kind-length, kind-short}
-use Rattle.store.proofs.Cases.{table-stays}
+use Rattle.expull_header.specs.declared.Header.{Header}
+use Rattle.expull_header.specs.Header.{fresh, headerBytes}
+use Rattle.expull_append.specs.Append.{Writing, writing, appended, planOf}
+use Rattle.expull_header.proofs.Laws.{header-length}
+use Rattle.store_state.specs.declared.State.{State}
+use Rattle.store_state.specs.declared.Name.the-variants.{Proper}
+use Rattle.store_state.specs.State.{firstOf}
+use Rattle.store_state.specs.Name.{nameKind}
+use Rattle.store_look.specs.Look.{lent, checked}
+use Rattle.store_append.specs.Append.{isCrowded, grows, grownState, stateGrown, tableGrown, movedState}
+use Rattle.store_state.proofs.Guard.{kind-length, kind-short}
+use Rattle.store_append.proofs.Cases.{table-stays}
 use Rattle.history_lanes.specs.Lane.{content, TipClear, usedEnd, Lane, After, arenaOf}
 use Rattle.history_lanes.proofs.Blocks.{apart-within}
 use Rattle.history_lanes.proofs.Moved.{lane-moved}
@@ -49,7 +50,8 @@ use Rattle.history.specs.Sound.{Record, Ghosts, Stands, RecordsApart, Bl
 use Rattle.history.specs.Frames.{Kept}
 use Rattle.history.proofs.Words.{grown-words, grown-entered-words}
 use Rattle.history.proofs.Apart.{apart-none, apart-turned, apart-tip, apart-after}
-use Rattle.history.proofs.Records.{record-place, record-kept, record-up, record-revalued, length-record, record-written}
+use Rattle.history.proofs.Records.{record-place, record-kept, record-up, record-revalued, length-record}
+use Rattle.history.proofs.Records.{record-written}
 use Rattle.history.proofs.Grown.{sound-whole, Grew, grew}
 
 -- ---- a function with another value at one name
@@ -84,7 +86,8 @@ pub record Leaves (w : World) (G : Ghosts) (name bytes : List ℕ) (w′ : World
   -- what the list was before, and what the append did to it
   pub header : Header
   pub blocks : List ℕ
-  pub list : After (w .memory .lists) (w .state .«list_arena») header blocks bytes (w′ .memory .lists) (w′ .state .«list_arena») (G′ .header name) (G′ .blocks name)
+  pub list : After (w .memory .lists) (w .state .«list_arena») header blocks bytes (w′ .memory .lists)
+      (w′ .state .«list_arena») (G′ .header name) (G′ .blocks name)
   pub list-standing : Stands G name → (header ≡ G .header name) × (blocks ≡ G .blocks name)
   pub list-new : (Stands G name → ⊥) → header ≡ fresh
   pub list-clear : (j : List ℕ) → (j ≡ name → ⊥) → Stands G j → TipClear blocks (G .blocks j)
@@ -99,15 +102,18 @@ pub record Leaves (w : World) (G : Ghosts) (name bytes : List ℕ) (w′ : World
       ≡ At (G′ .place name) (w′ .state .«key_arena»)
   pub keys-above : (Stands G name → ⊥) → (usedEnd (w .state .«key_arena») ≤ G′ .place name)
       × (usedEnd (w′ .state .«key_arena») ≡ G′ .place name + (length name + recordExtra))
-  pub keys-standing : Stands G name → (q n : ℕ) → Apart (valuePlace (w .memory .keys) (G .place name)) valueSize q n → Kept (w .memory .keys) (w′ .memory .keys) q n
-  pub keys-new : (Stands G name → ⊥) → (q n : ℕ) → Apart (G′ .place name) (length name + recordExtra) q n → Kept (w .memory .keys) (w′ .memory .keys) q n
+  pub keys-standing : Stands G name → (q n : ℕ) → Apart (valuePlace (w .memory .keys) (G .place name)) valueSize q n
+      → Kept (w .memory .keys) (w′ .memory .keys) q n
+  pub keys-new : (Stands G name → ⊥) → (q n : ℕ) → Apart (G′ .place name) (length name + recordExtra) q n
+      → Kept (w .memory .keys) (w′ .memory .keys) q n
   -- the table
   pub table-long : w′ .state .buckets ≡ stateGrown (w .state) .buckets
   pub table-standing : Stands G name → grows (w .state) ≡ false → w′ .memory .table ≡ w .memory .table
   pub table-new : (Stands G name → ⊥)
       → OneBucket (firstOf (stateGrown (w .state))) (stateGrown (w .state) .buckets) (G′ .place name)
       (murmurHash2 (w .state .seed) name) (tableGrown (w .state) (w .memory .table)) (w′ .memory .table)
-  pub table-grown : grows (w .state) ≡ true → (q : ℕ) → Outside (firstOf (grownState (w .state))) (grownLength (w .state .buckets)) q
+  pub table-grown : grows (w .state) ≡ true → (q : ℕ)
+      → Outside (firstOf (grownState (w .state))) (grownLength (w .state .buckets)) q
       → getD (w′ .memory .table) q 0 ≡ getD (w .memory .table) q 0
 
 -- ---- what an accepted append comes to
@@ -149,10 +155,13 @@ module _ {w : World} {G : Ghosts} (S : Sound w G) where
 
   -- the lanes of the names g, where name's has become ks with the header of v, and had been ks₀ with header h
   record Lists (name bytes : List ℕ) (h : Header) (ks₀ : List ℕ) (v : Writing) (ks : List ℕ) (g : Names) : Type 0 where
-    lanes : (j : List ℕ) → Member j g → Lane (v .memory) (v .arena) (updated (G .header) name (v .header) j) (updated (G .blocks) name ks j)
-    apart : (j n : List ℕ) → Member j g → Member n g → (j ≡ n → ⊥) → BlocksApart (updated (G .blocks) name ks j) (updated (G .blocks) name ks n)
+    lanes : (j : List ℕ) → Member j g
+        → Lane (v .memory) (v .arena) (updated (G .header) name (v .header) j) (updated (G .blocks) name ks j)
+    apart : (j n : List ℕ) → Member j g → Member n g → (j ≡ n → ⊥)
+        → BlocksApart (updated (G .blocks) name ks j) (updated (G .blocks) name ks n)
     others : (j : List ℕ) → (j ≡ name → ⊥) → Stands G j
-        → content (v .memory) (updated (G .blocks) name ks j) (updated (G .header) name (v .header) j .remaining) ≡ bytesOf w G j
+        → content (v .memory) (updated (G .blocks) name ks j) (updated (G .header) name (v .header) j .remaining)
+        ≡ bytesOf w G j
     own : content (v .memory) (updated (G .blocks) name ks name) (updated (G .header) name (v .header) name .remaining)
         ≡ content (w .memory .lists) ks₀ (h .remaining) ++ bytes
 
@@ -161,17 +170,23 @@ module _ {w : World} {G : Ghosts} (S : Sound w G) where
       (beside : (j : List ℕ) → (j ≡ name → ⊥) → Stands G j → BlocksApart (G .blocks j) ks₀) where
     -- another lane
     moved : (j : List ℕ) → (j ≡ name → ⊥) → Stands G j
-        → Lane (v .memory) (v .arena) (G .header j) (G .blocks j) × (content (v .memory) (G .blocks j) (G .header j .remaining) ≡ bytesOf w G j)
+        → Lane (v .memory) (v .arena) (G .header j) (G .blocks j)
+        × (content (v .memory) (G .blocks j) (G .header j .remaining) ≡ bytesOf w G j)
     moved j f o =
-        lane-moved (w .memory .lists) (w .state .«list_arena») h ks₀ bytes (v .memory) (v .arena) (v .header) ks A (G .header j) (G .blocks j) (S .lanes j o)
+        lane-moved (w .memory .lists) (w .state .«list_arena») h ks₀ bytes (v .memory) (v .arena) (v .header) ks A
+        (G .header j) (G .blocks j) (S .lanes j o)
         (apart-tip ks₀ (G .blocks j) (apart-turned (G .blocks j) ks₀ (beside j f o)))
 
     lists-after : (g : Names) → ((j : List ℕ) → Member j g → (j ≡ name) ⊎ Stands G j) → Lists name bytes h ks₀ v ks g
     lists-after g only = record {
       lanes = λ j n. lane j n (decide-name j name);
       apart = λ j n x y f. clear j n x y f (decide-name j name) (decide-name n name);
-      others = λ j f o. rw (updated-other (G .blocks) name ks j f, updated-other (G .header) name (v .header) j f) (moved j f o .1);
-      own = rw (updated-same (G .blocks) name ks name refl, updated-same (G .header) name (v .header) name refl) (A .bytes);
+      others =
+          λ j f o. rw (updated-other (G .blocks) name ks j f, updated-other (G .header) name (v .header) j f)
+          (moved j f o .1);
+      own =
+          rw (updated-same (G .blocks) name ks name refl, updated-same (G .header) name (v .header) name refl)
+          (A .bytes);
     }
       where
         old : (j : List ℕ) → (j ≡ name → ⊥) → Member j g → Stands G j
@@ -184,15 +199,18 @@ module _ {w : World} {G : Ghosts} (S : Sound w G) where
 
         own : (j : List ℕ) → (j ≡ name → ⊥) → Member j g → BlocksApart (G .blocks j) ks
         own j f x =
-            apart-after (w .memory .lists) (w .state .«list_arena») h ks₀ bytes (v .memory) (v .arena) (v .header) ks A (G .blocks j)
+            apart-after (w .memory .lists) (w .state .«list_arena») h ks₀ bytes (v .memory) (v .arena) (v .header) ks A
+            (G .blocks j)
             (S .lanes j (old j f x) .below) (beside j f (old j f x))
 
         clear : (j n : List ℕ) → Member j g → Member n g → (j ≡ n → ⊥) → Dec (j ≡ name) → Dec (n ≡ name)
             → BlocksApart (updated (G .blocks) name ks j) (updated (G .blocks) name ks n)
         clear j n x y f (yes p) (yes q) = absurd (f (p ∙ sym q))
-        clear j n x y f (yes p) (no q) = rw (equal-same j name p, equal-not n name q) (apart-turned (G .blocks n) ks (own n q y))
+        clear j n x y f (yes p) (no q) =
+            rw (equal-same j name p, equal-not n name q) (apart-turned (G .blocks n) ks (own n q y))
         clear j n x y f (no p) (yes q) = rw (equal-not j name p, equal-same n name q) (own j p x)
-        clear j n x y f (no p) (no q) = rw (equal-not j name p, equal-not n name q) (S .lanes-apart j n (old j p x) (old n q y) f)
+        clear j n x y f (no p) (no q) =
+            rw (equal-not j name p, equal-not n name q) (S .lanes-apart j n (old j p x) (old n q y) f)
 
   -- ---- an append to a standing name
 
@@ -202,12 +220,16 @@ module _ {w : World} {G : Ghosts} (S : Sound w G) where
     standing-left = record {
       state = movedState (stateGrown (w .state)) (w .state .keys) (w .state .«key_arena») (v .arena);
       memory = lent (tableGrown (w .state) (w .memory .table))
-          (overwrite (valuePlace (w .memory .keys) (G .place name)) (headerBytes (v .header)) (w .memory .keys)) (v .memory);
+          (overwrite (valuePlace (w .memory .keys) (G .place name)) (headerBytes (v .header)) (w .memory .keys))
+          (v .memory);
     }
 
     pub standing-after : (ks : List ℕ)
-        × After (w .memory .lists) (w .state .«list_arena») (G .header name) (G .blocks name) bytes (v .memory) (v .arena) (v .header) ks
-    standing-after = lane-appended (w .memory .lists) (w .state .«list_arena») (G .header name) (G .blocks name) bytes v (S .lanes name M) e
+        × After (w .memory .lists) (w .state .«list_arena») (G .header name) (G .blocks name) bytes (v .memory)
+        (v .arena) (v .header) ks
+    standing-after =
+        lane-appended (w .memory .lists) (w .state .«list_arena») (G .header name) (G .blocks name) bytes v
+        (S .lanes name M) e
 
     abbrev standing-ghosts : Names → Ghosts
     standing-ghosts g = record {
@@ -218,20 +240,26 @@ module _ {w : World} {G : Ghosts} (S : Sound w G) where
     }
 
     standing-records : (j : List ℕ) → Stands G j
-        → Record (overwrite (valuePlace (w .memory .keys) (G .place name)) (headerBytes (v .header)) (w .memory .keys)) (w .state .«key_arena») (G .place j) j
+        → Record (overwrite (valuePlace (w .memory .keys) (G .place name)) (headerBytes (v .header)) (w .memory .keys))
+        (w .state .«key_arena») (G .place j) j
         (updated (G .header) name (v .header) j)
     standing-records j m = rw (record-place (S .records name M)) (go (decide-name j name))
       where
         go : Dec (j ≡ name)
-            → Record (overwrite (G .place name + 2 + length name) (headerBytes (v .header)) (w .memory .keys)) (w .state .«key_arena») (G .place j) j
+            → Record (overwrite (G .place name + 2 + length name) (headerBytes (v .header)) (w .memory .keys))
+            (w .state .«key_arena») (G .place j) j
             (updated (G .header) name (v .header) j)
-        go (yes p) = rw (updated-same (G .header) name (v .header) j p, p) (record-revalued (S .records name M) key-stands (v .header))
+        go (yes p) =
+            rw (updated-same (G .header) name (v .header) j p, p)
+            (record-revalued (S .records name M) key-stands (v .header))
         go (no p) =
             rw (updated-other (G .header) name (v .header) j p)
             (record-kept (S .records j m) (G .place name + 2 + length name) (headerBytes (v .header))
             (rw header-length
-            (apart-within (G .place name) (length name + recordExtra) (G .place j) (length j + recordExtra) (G .place name + 2 + length name) valueSize (G .place j)
-            (length j + recordExtra) (omega arith) (omega arith) (le-refl (G .place j)) (le-refl (G .place j + (length j + recordExtra)))
+            (apart-within (G .place name) (length name + recordExtra) (G .place j) (length j + recordExtra)
+            (G .place name + 2 + length name) valueSize (G .place j)
+            (length j + recordExtra) (omega arith) (omega arith) (le-refl (G .place j))
+            (le-refl (G .place j + (length j + recordExtra)))
             (S .records-apart name j M m (λ q. p (sym q))))))
 
     standing-leaves : (g : Names) → Leaves w G name bytes standing-left (standing-ghosts g)
@@ -239,14 +267,19 @@ module _ {w : World} {G : Ghosts} (S : Sound w G) where
       remembers = grown-remembers (w .state);
       header = G .header name;
       blocks = G .blocks name;
-      list = rw (updated-same (G .header) name (v .header) name refl, updated-same (G .blocks) name (standing-after .0) name refl) (standing-after .1);
+      list =
+          rw (
+            updated-same (G .header) name (v .header) name refl,
+            updated-same (G .blocks) name (standing-after .0) name refl,
+          ) (standing-after .1);
       list-standing = λ m. (refl, refl);
       list-new = λ f. absurd (f M);
       list-clear = λ j f m. apart-tip (G .blocks name) (G .blocks j) (S .lanes-apart name j M m (λ q. f (sym q)));
       list-plan = lane-plan (w .memory .lists) (w .state .«list_arena») (G .header name) bytes ∙ ap arenaOf e;
       place-kept = λ m. refl;
       keys-standing = λ m q n d.
-          read-apart q n (valuePlace (w .memory .keys) (G .place name)) (headerBytes (v .header)) (w .memory .keys) (rw header-length d);
+          read-apart q n (valuePlace (w .memory .keys) (G .place name)) (headerBytes (v .header)) (w .memory .keys)
+          (rw header-length d);
       keys-new = λ f q n d. absurd (f M);
       keys-used = λ m. refl;
       keys-room = λ f. absurd (f M);
@@ -257,7 +290,8 @@ module _ {w : World} {G : Ghosts} (S : Sound w G) where
       table-grown = grown-words (w .state) (w .memory .table);
     }
 
-    standing-took : checked (standing-left .state) (standing-left .memory) ≡ true → Grew w G (stateGrown (w .state)) (tableGrown (w .state) (w .memory .table))
+    standing-took : checked (standing-left .state) (standing-left .memory) ≡ true
+        → Grew w G (stateGrown (w .state)) (tableGrown (w .state) (w .memory .table))
         → Took w G name bytes standing-left
     standing-took whole E =
         let L = lists-after name bytes (G .header name) (G .blocks name) v (standing-after .0) (standing-after .1)
@@ -284,37 +318,50 @@ module _ {w : World} {G : Ghosts} (S : Sound w G) where
           leaves = standing-leaves (E .names);
         }
 
-    pub took-standing : checked (standing-left .state) (standing-left .memory) ≡ true → Took w G name bytes standing-left
+    pub took-standing : checked (standing-left .state) (standing-left .memory) ≡ true
+        → Took w G name bytes standing-left
     took-standing whole = standing-took whole (grew S)
 
   -- ---- an append to a new name
 
   module _ (name bytes : List ℕ) (M : Stands G name → ⊥) (proper : nameKind (w .state) (length name) ≡ Proper)
       (loose : isCrowded (w .state) ≡ false) (at : ℕ) (ka : Arena)
-      (r : roomFor (w .state .«key_arena») (length (w .memory .keys)) (length name + recordExtra) ≡ At at ka) (v : Writing)
+      (r : roomFor (w .state .«key_arena») (length (w .memory .keys)) (length name + recordExtra) ≡ At at ka)
+      (v : Writing)
       (e : appended bytes (writing (w .memory .lists) (w .state .«list_arena») fresh) ≡ some v) where
     abbrev pub new-left : World
     new-left = record {
       state = movedState (stateGrown (w .state)) (w .state .keys + 1) ka (v .arena);
       memory = lent
-          (entered (firstOf (stateGrown (w .state))) (stateGrown (w .state) .buckets) at (murmurHash2 (w .state .seed) name)
+          (entered (firstOf (stateGrown (w .state))) (stateGrown (w .state) .buckets) at
+          (murmurHash2 (w .state .seed) name)
           (tableGrown (w .state) (w .memory .table)))
           (overwrite at (recordBytes name (v .header)) (w .memory .keys)) (v .memory);
     }
 
-    pub new-after : (ks : List ℕ) × After (w .memory .lists) (w .state .«list_arena») fresh [] bytes (v .memory) (v .arena) (v .header) ks
+    pub new-after : (ks : List ℕ)
+        × After (w .memory .lists) (w .state .«list_arena») fresh [] bytes (v .memory) (v .arena) (v .header) ks
     new-after =
-        lane-appended (w .memory .lists) (w .state .«list_arena») fresh [] bytes v (lane-fresh (w .memory .lists) (w .state .«list_arena») list-stands list-short) e
+        lane-appended (w .memory .lists) (w .state .«list_arena») fresh [] bytes v
+        (lane-fresh (w .memory .lists) (w .state .«list_arena») list-stands list-short) e
 
     room : Room (w .state .«key_arena») (length (w .memory .keys)) (length name + recordExtra) at ka
-    room = room-facts (w .state .«key_arena») (length (w .memory .keys)) (length name + recordExtra) at ka (omega arith) key-stands r
+    room =
+        room-facts (w .state .«key_arena») (length (w .memory .keys)) (length name + recordExtra) at ka
+        (omega arith) key-stands r
 
     new-in : at + (length name + recordExtra) ≤ length (w .memory .keys)
-    new-in = room-in (w .state .«key_arena») (length (w .memory .keys)) (length name + recordExtra) at ka (omega arith) key-stands r
+    new-in =
+        room-in (w .state .«key_arena») (length (w .memory .keys)) (length name + recordExtra) at ka
+        (omega arith) key-stands r
 
     new-paged : placeOf (ka .size) at + (length name + recordExtra) ≤ ka .size
     new-paged =
-        rw (room .page-on, place-of (ka .size) (ka .page) (ka .used - (length name + recordExtra)) (omega (arith, room .wide, room .after .in-page)))
+        rw (
+          room .page-on,
+          place-of (ka .size) (ka .page) (ka .used - (length name + recordExtra))
+              (omega (arith, room .wide, room .after .in-page)),
+        )
         (omega (arith, room .wide, room .after .in-page))
 
     -- the records that stand lie below the new one
@@ -333,7 +380,8 @@ module _ {w : World} {G : Ghosts} (S : Sound w G) where
     other j m q = M (subst (Stands G) q m)
 
     new-record : (g : Names) (j : List ℕ) → (j ≡ name) ⊎ Stands G j
-        → Record (overwrite at (recordBytes name (v .header)) (w .memory .keys)) ka (new-ghosts g .place j) j (new-ghosts g .header j)
+        → Record (overwrite at (recordBytes name (v .header)) (w .memory .keys)) ka (new-ghosts g .place j) j
+        (new-ghosts g .header j)
     new-record g j (inl q) =
         rw (updated-same (G .place) name at j q, updated-same (G .header) name (v .header) j q, q)
         (record-written (w .memory .keys) ka at name (v .header) (kind-length (w .state) (length name) Proper proper .0)
@@ -341,17 +389,20 @@ module _ {w : World} {G : Ghosts} (S : Sound w G) where
         (omega (arith, room .end)) new-paged new-in)
     new-record g j (inr m) =
         rw (updated-other (G .place) name at j (other j m), updated-other (G .header) name (v .header) j (other j m))
-        (record-up (room-size (w .state .«key_arena») (length (w .memory .keys)) (length name + recordExtra) at ka r) (omega (arith, room .above, room .end))
+        (record-up (room-size (w .state .«key_arena») (length (w .memory .keys)) (length name + recordExtra) at ka r)
+        (omega (arith, room .above, room .end))
         (record-kept (S .records j m) at (recordBytes name (v .header)) (inr (new-below j m))))
 
-    new-apart : (g : Names) (j n : List ℕ) → (j ≡ name) ⊎ Stands G j → (n ≡ name) ⊎ Stands G n → (j ≡ n → ⊥) → RecordsApart (new-ghosts g) j n
+    new-apart : (g : Names) (j n : List ℕ) → (j ≡ name) ⊎ Stands G j → (n ≡ name) ⊎ Stands G n → (j ≡ n → ⊥)
+        → RecordsApart (new-ghosts g) j n
     new-apart g j n (inl p) (inl q) f = absurd (f (p ∙ sym q))
     new-apart g j n (inl p) (inr y) f =
         rw (updated-same (G .place) name at j p, updated-other (G .place) name at n (other n y)) (inr (new-below n y))
     new-apart g j n (inr x) (inl q) f =
         rw (updated-other (G .place) name at j (other j x), updated-same (G .place) name at n q) (inl (new-below j x))
     new-apart g j n (inr x) (inr y) f =
-        rw (updated-other (G .place) name at j (other j x), updated-other (G .place) name at n (other n y)) (S .records-apart j n x y f)
+        rw (updated-other (G .place) name at j (other j x), updated-other (G .place) name at n (other n y))
+        (S .records-apart j n x y f)
 
     -- its bucket, in the table as it stands after any growth
     abbrev EnteredAt : ℕ → Type 0
@@ -366,7 +417,11 @@ module _ {w : World} {G : Ghosts} (S : Sound w G) where
       remembers = grown-remembers (w .state);
       header = fresh;
       blocks = [];
-      list = rw (updated-same (G .header) name (v .header) name refl, updated-same (G .blocks) name (new-after .0) name refl) (new-after .1);
+      list =
+          rw (
+            updated-same (G .header) name (v .header) name refl,
+            updated-same (G .blocks) name (new-after .0) name refl,
+          ) (new-after .1);
       list-standing = λ m. absurd (M m);
       list-new = λ f. refl;
       list-clear = λ j f m. tt;
@@ -385,14 +440,19 @@ module _ {w : World} {G : Ghosts} (S : Sound w G) where
       table-grown = grown-entered-words (w .state) (w .memory .table) at (murmurHash2 (w .state .seed) name);
     }
 
-    new-took : checked (new-left .state) (new-left .memory) ≡ true → Grew w G (stateGrown (w .state)) (tableGrown (w .state) (w .memory .table))
+    new-took : checked (new-left .state) (new-left .memory) ≡ true
+        → Grew w G (stateGrown (w .state)) (tableGrown (w .state) (w .memory .table))
         → Took w G name bytes new-left
     new-took whole E =
-        let T = table-readdressed (E .table) (updated (G .place) name at) (λ k m. updated-other (G .place) name at k (other k (E .only k m))) in
+        let T = table-readdressed (E .table) (updated (G .place) name at)
+        (λ k m. updated-other (G .place) name at k (other k (E .only k m))) in
         let a : updated (G .place) name at name ≡ at = updated-same (G .place) name at name refl in
-        let N = enters T name (λ m. M (E .only name m)) (omega (arith, E .room loose, E .many)) (λ q. omega (arith, a, new-in, key-short)) in
-        let only : (j : List ℕ) → Member j (N .0) → (j ≡ name) ⊎ Stands G j = λ j m. ⊎-elim (λ q. inl q) (λ o. inr (E .only j o)) (N .1 .only j m) in
-        let L = lists-after name bytes fresh [] v (new-after .0) (new-after .1) (λ j f m. apart-none (G .blocks j)) (N .0) only in
+        let N = enters T name (λ m. M (E .only name m)) (omega (arith, E .room loose, E .many))
+        (λ q. omega (arith, a, new-in, key-short)) in
+        let only : (j : List ℕ) → Member j (N .0)
+        → (j ≡ name) ⊎ Stands G j = λ j m. ⊎-elim (λ q. inl q) (λ o. inr (E .only j o)) (N .1 .only j m) in
+        let L = lists-after name bytes fresh [] v (new-after .0) (new-after .1) (λ j f m. apart-none (G .blocks j))
+        (N .0) only in
         record {
           ghosts = new-ghosts (N .0);
           sound = record {
@@ -400,9 +460,11 @@ module _ {w : World} {G : Ghosts} (S : Sound w G) where
             table =
                 rw (E .seed-is)
                 (subst (λ (x : ℕ). Table
-                (entered (firstOf (stateGrown (w .state))) (stateGrown (w .state) .buckets) x (murmurHash2 (w .state .seed) name)
+                (entered (firstOf (stateGrown (w .state))) (stateGrown (w .state) .buckets) x
+                (murmurHash2 (w .state .seed) name)
                 (tableGrown (w .state) (w .memory .table)))
-                (firstOf (stateGrown (w .state))) (stateGrown (w .state) .buckets) (murmurHash2 (w .state .seed)) (updated (G .place) name at) (N .0))
+                (firstOf (stateGrown (w .state))) (stateGrown (w .state) .buckets) (murmurHash2 (w .state .seed))
+                (updated (G .place) name at) (N .0))
                 a (N .1 .table));
             counted = omega (arith, N .1 .more, E .many);
             half = omega (arith, E .room loose);

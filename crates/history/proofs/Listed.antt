@@ -8,14 +8,15 @@ use native.Mathlib.Omega.{arith}
 use lib.ListN.{length}
 use Rattle.shared_arena_hashmap.specs.declared.Next.{Next}
 use Rattle.shared_arena_hashmap.specs.declared.Next.the-variants.{Occupied, NoMore as NoBucket}
-use Rattle.shared_arena_hashmap.specs.Probe.{keyAt, occupiedFrom}
-use Rattle.store.specs.declared.Listed.{Listed}
-use Rattle.store.specs.declared.Listed.the-variants.{Bucket, NoMore, Stopped}
-use Rattle.store.specs.declared.Counted.the-variants.{Keys}
-use Rattle.store.specs.State.{firstOf}
-use Rattle.store.specs.declared.Lookup.the-variants.{At}
-use Rattle.store.specs.Look.{lookupOf, onNext, nextOf}
-use Rattle.store.proofs.Found.{next-on, next-good, next-none, count-keys}
+use Rattle.records.specs.Record.{keyAt}
+use Rattle.shared_arena_hashmap.specs.Probe.{occupiedFrom}
+use Rattle.store_look.specs.declared.Listed.{Listed}
+use Rattle.store_look.specs.declared.Listed.the-variants.{Bucket, NoMore, Stopped}
+use Rattle.store_look.specs.declared.Counted.the-variants.{Keys}
+use Rattle.store_state.specs.State.{firstOf}
+use Rattle.store_look.specs.declared.Lookup.the-variants.{At}
+use Rattle.store_look.specs.Look.{lookupOf, onNext, nextOf}
+use Rattle.store_look.proofs.Found.{next-on, next-good, next-none, count-keys}
 use Rattle.history_names.specs.Listing.{inOrder, times, listedNext, listing}
 use Rattle.history_names.proofs.Listing.{order-length, lists-next, lists-once, lists-only, lists-names}
 use Rattle.history.specs.History.{World}
@@ -46,14 +47,17 @@ module _ {w : World} {G : Ghosts} (S : Sound w G) where
         place = G .place (r .1);
         met = r .3;
         said =
-            next-on (w .state) (w .memory) i (S .whole) ∙ ap (λ (x : Next). onNext x (w .state .«key_arena») (w .memory .keys)) (r .3)
-            ∙ next-good (w .state .«key_arena») (w .memory .keys) (r .0) (G .place (r .1)) (sound-records S (r .1) (r .0, r .2 .named) .0);
+            next-on (w .state) (w .memory) i (S .whole)
+            ∙ ap (λ (x : Next). onNext x (w .state .«key_arena») (w .memory .keys)) (r .3)
+            ∙ next-good (w .state .«key_arena») (w .memory .keys) (r .0) (G .place (r .1))
+            (sound-records S (r .1) (r .0, r .2 .named) .0);
         found = ap (lookupOf (w .state) (w .memory)) (sound-records S (r .1) (r .0, r .2 .named) .1)
             ∙ lookup-finds S (r .1) (r .0, r .2 .named);
       }))
       (λ r. inr (
         r .1,
-        next-on (w .state) (w .memory) i (S .whole) ∙ ap (λ (x : Next). onNext x (w .state .«key_arena») (w .memory .keys)) (r .1)
+        next-on (w .state) (w .memory) i (S .whole)
+            ∙ ap (λ (x : Next). onNext x (w .state .«key_arena») (w .memory .keys)) (r .1)
             ∙ next-none (w .state .«key_arena») (w .memory .keys),
       ))
       (lists-next (S .table) i)
@@ -66,14 +70,16 @@ module _ {w : World} {G : Ghosts} (S : Sound w G) where
       rest : ℕ → List ℕ
       rest j = listing (w .memory .table) (firstOf (w .state)) (w .state .buckets) n j
 
-      go : Meets i ⊎ ((next i ≡ NoBucket) × (nextOf (w .state) (w .memory) i ≡ NoMore)) → ((j : ℕ) → listedFrom w n j ≡ rest j)
+      go : Meets i ⊎ ((next i ≡ NoBucket) × (nextOf (w .state) (w .memory) i ≡ NoMore))
+          → ((j : ℕ) → listedFrom w n j ≡ rest j)
           → listedOn (nextOf (w .state) (w .memory) i) (λ j. listedFrom w n j) ≡ listedNext (next i) (λ j. rest j)
       go (inl r) ih =
           ap (λ (x : Listed). listedOn x (λ j. listedFrom w n j)) (r .said)
           ∙ ap (λ (l : List ℕ). r .place ∷ l) (ih (r .bucket + 1))
           ∙ sym (ap (λ (x : Next). listedNext x (λ j. rest j)) (r .met))
       go (inr r) ih =
-          ap (λ (x : Listed). listedOn x (λ j. listedFrom w n j)) (r .1) ∙ sym (ap (λ (x : Next). listedNext x (λ j. rest j)) (r .0))
+          ap (λ (x : Listed). listedOn x (λ j. listedFrom w n j)) (r .1)
+          ∙ sym (ap (λ (x : Next). listedNext x (λ j. rest j)) (r .0))
 
   names-are : listedNames w ≡ inOrder (G .names)
   names-are =

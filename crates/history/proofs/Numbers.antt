@@ -13,22 +13,22 @@ use Rattle.memory_arena.specs.declared.Arena.{Arena}
 use Rattle.memory_arena.specs.declared.Allocated.{Allocated}
 use Rattle.memory_arena.specs.declared.Allocated.the-variants.{At as Room·At, NoRoom, Refused as Room·Refused}
 use Rattle.memory_arena.specs.Pages.{roomFor}
-use Rattle.expull.specs.declared.Header.{Header}
-use Rattle.expull.specs.Header.{fresh}
-use Rattle.expull.specs.Append.{planOf}
-use Rattle.store.specs.declared.State.{State}
-use Rattle.store.specs.declared.Lookup.{Lookup}
-use Rattle.store.specs.declared.Lookup.the-variants.{Missing, Failed}
-use Rattle.store.specs.declared.Name.{Name}
-use Rattle.store.specs.declared.Name.the-variants.{TooLong, Nameless, Proper}
-use Rattle.store.specs.declared.Listed.{Listed}
-use Rattle.store.specs.declared.Listed.the-variants.{Bucket, NoMore, Stopped}
-use Rattle.store.specs.Name.{nameLimitOf, nameKind, byKind}
-use Rattle.store.specs.Look.{Lent, checked, Read, lookupOf, onLookup, onLookupRead, lengthAt, lengthOf, readAt, readOf}
-use Rattle.store.specs.Look.{blockAt, findBlockOf, nextOf}
-use Rattle.store.specs.Append.{isCrowded}
-use Rattle.store.proofs.Guard.{kind-length}
-use Rattle.store.proofs.Found.{lookup-3, lookup-nameless}
+use Rattle.expull_header.specs.declared.Header.{Header}
+use Rattle.expull_header.specs.Header.{fresh}
+use Rattle.expull_append.specs.Append.{planOf}
+use Rattle.store_state.specs.declared.State.{State}
+use Rattle.store_look.specs.declared.Lookup.{Lookup}
+use Rattle.store_look.specs.declared.Lookup.the-variants.{Missing, Failed}
+use Rattle.store_state.specs.declared.Name.{Name}
+use Rattle.store_state.specs.declared.Name.the-variants.{TooLong, Nameless, Proper}
+use Rattle.store_look.specs.declared.Listed.{Listed}
+use Rattle.store_look.specs.declared.Listed.the-variants.{Bucket, NoMore, Stopped}
+use Rattle.store_state.specs.Name.{nameLimitOf, nameKind, byKind}
+use Rattle.store_look.specs.Look.{Lent, checked, Read, lookupOf, onLookup, onLookupRead, lengthAt, lengthOf, readAt}
+use Rattle.store_look.specs.Look.{readOf, blockAt, findBlockOf, nextOf}
+use Rattle.store_append.specs.Append.{isCrowded}
+use Rattle.store_state.proofs.Guard.{kind-length}
+use Rattle.store_look.proofs.Found.{lookup-3, lookup-nameless}
 use Rattle.history.specs.History.{World, Call, appends, looksUp, asksLength, reads, findsBlock, showsBlock}
 use Rattle.history.specs.History.{listsFrom, countsKeys}
 use Rattle.history.specs.Due.{shapeOf, dueBlocks, dueRecord, dueList, dueNew, dueBy, due}

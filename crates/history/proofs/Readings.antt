@@ -1,4 +1,5 @@
--- What the calls that change nothing answer in a sound store: of a name that stands its bytes, of any other that it is absent. Assumes nothing.
+-- What the calls that change nothing answer in a sound store: of a name that stands its bytes, of any other that it is
+-- absent. Assumes nothing.
 use Prim.Native.Nat.{ℕ, zero, suc, _≤_, _<_}
 use mathlib.Core.Path.{_≡_, refl, sym, ap, _∙_, subst}
 use mathlib.Core.Logic.{⊎-elim}
@@ -13,24 +14,26 @@ use borrow.Author.Tests.{le-leb, lt-leb}
 use Rattle.numbers.proofs.Tests.{both-true}
 use Rattle.spans.specs.Span.{readSpan, overwrite}
 use Rattle.shared_arena_hashmap.specs.declared.Met.the-variants.{Empty, Standing, Lap}
-use Rattle.expull.specs.declared.Header.{Header}
-use Rattle.expull.specs.declared.Block.{Block as Found·Block}
-use Rattle.expull.specs.declared.Block.the-variants.{NoBlock}
-use Rattle.expull.specs.Header.{laneLength, blockCount}
-use Rattle.expull.specs.Blocks.{laneBytes, goodBlocks, blockPlace, blockLength, blockOf}
-use Rattle.store.specs.declared.State.{State}
-use Rattle.store.specs.declared.Name.{Name}
-use Rattle.store.specs.declared.Name.the-variants.{TooLong, Nameless, Proper}
-use Rattle.store.specs.declared.Lookup.{Lookup}
-use Rattle.store.specs.declared.Lookup.the-variants.{At, Missing}
-use Rattle.store.specs.declared.Answer.the-variants.{Found, Refused}
-use Rattle.store.specs.declared.Outcome.the-variants.{Length, Reading, Block, NoSuchBlock}
-use Rattle.store.specs.Name.{nameLimitOf, nameKind}
-use Rattle.store.specs.Look.{Lent, lookupOf, onLookup, onLookupRead, headerOf, lengthAt, lengthOf, reading, readAt}
-use Rattle.store.specs.Look.{readOf, onBlock, blockAt, findBlockOf, blocksSound}
-use Rattle.store.proofs.Guard.{kind-length}
-use Rattle.store.proofs.Found.{lookup-nameless, lookup-met, Headed, length-found, length-at, read-on, read-at}
-use Rattle.store.proofs.Found.{block-found, block-at, show-part}
+use Rattle.expull_header.specs.declared.Header.{Header}
+use Rattle.expull_walk.specs.declared.Block.{Block as Found·Block}
+use Rattle.expull_walk.specs.declared.Block.the-variants.{NoBlock}
+use Rattle.expull_header.specs.Header.{laneLength, blockCount}
+use Rattle.expull_walk.specs.Blocks.{laneBytes, goodBlocks, blockPlace, blockLength, blockOf}
+use Rattle.store_state.specs.declared.State.{State}
+use Rattle.store_state.specs.declared.Name.{Name}
+use Rattle.store_state.specs.declared.Name.the-variants.{TooLong, Nameless, Proper}
+use Rattle.store_look.specs.declared.Lookup.{Lookup}
+use Rattle.store_look.specs.declared.Lookup.the-variants.{At, Missing}
+use Rattle.store_look.specs.declared.Answer.the-variants.{Found, Refused}
+use Rattle.store_look.specs.declared.Outcome.the-variants.{Length, Reading, Block, NoSuchBlock}
+use Rattle.store_state.specs.Name.{nameLimitOf, nameKind}
+use Rattle.records.specs.Record.{headerOf}
+use Rattle.store_look.specs.Look.{Lent, lookupOf, onLookup, onLookupRead, lengthAt, lengthOf, reading, readAt}
+use Rattle.store_look.specs.Look.{readOf, onBlock, blockAt, findBlockOf, blocksSound}
+use Rattle.store_state.proofs.Guard.{kind-length}
+use Rattle.records.proofs.Laws.{Headed}
+use Rattle.store_look.proofs.Found.{lookup-nameless, lookup-met, length-found, length-at, read-on, read-at}
+use Rattle.store_look.proofs.Found.{block-found, block-at, show-part}
 use Rattle.history_lanes.specs.Lane.{Lane, pieces}
 use Rattle.history_lanes.proofs.Readings.{lane-blocks, lane-reads, lane-length, lane-block, lane-no-block}
 use Rattle.history_lanes.proofs.Readings.{lane-pieces, lane-piece}
@@ -83,17 +86,22 @@ module _ {w : World} {G : Ghosts} (S : Sound w G) (name : List ℕ) where
     -- a reading, by the output's length
     reads-at : (output : List ℕ) (b : Bool) → leb (laneLength h) (length output) ≡ b
         → readOf st m name output
-        ≡ cond b (reading (Found (Reading (length bs))) (overwrite 0 bs output)) (reading (Refused 8 (length bs)) output)
+        ≡ cond b (reading (Found (Reading (length bs))) (overwrite 0 bs output))
+        (reading (Refused 8 (length bs)) output)
     reads-at output b e =
         sym (read-at st m name output at lookup-finds)
-        ∙ read-on st m at output h headed (lane-blocks (m .lists) (st .«list_arena») h (G .blocks name) lane (blockCount h) (le-refl (blockCount h)))
-        ∙ (λ i. cond (e i) (reading (Found (Reading (long i))) (overwrite 0 (bytes i) output)) (reading (Refused 8 (long i)) output))
+        ∙ read-on st m at output h headed
+        (lane-blocks (m .lists) (st .«list_arena») h (G .blocks name) lane (blockCount h) (le-refl (blockCount h)))
+        ∙ (λ i. cond (e i) (reading (Found (Reading (long i))) (overwrite 0 (bytes i) output))
+        (reading (Refused 8 (long i)) output))
 
     -- a block
-    block-said : (i : ℕ) (b : Found·Block) → blockOf (st .«list_arena») (m .lists) h i ≡ b → findBlockOf st m name i ≡ onBlock b
+    block-said : (i : ℕ) (b : Found·Block) → blockOf (st .«list_arena») (m .lists) h i ≡ b
+        → findBlockOf st m name i ≡ onBlock b
     block-said i b e = sym (block-at st m name i at lookup-finds) ∙ block-found st m i at h headed ∙ ap onBlock e
 
-    pub block-there : (i : ℕ) → i < blockCount h → findBlockOf st m name i ≡ Found (Block (blockPlace (m .lists) (h .head) i) (blockLength h i))
+    pub block-there : (i : ℕ) → i < blockCount h
+        → findBlockOf st m name i ≡ Found (Block (blockPlace (m .lists) (h .head) i) (blockLength h i))
     block-there i l = block-said i _ (lane-block (m .lists) (st .«list_arena») h (G .blocks name) lane i l .told)
 
     pub block-past : (i : ℕ) → blockCount h ≤ i → findBlockOf st m name i ≡ Found NoSuchBlock
@@ -129,7 +137,9 @@ module _ {w : World} {G : Ghosts} (S : Sound w G) (name : List ℕ) where
       named = record-key (S .records name M);
       read = λ output l. reads-at output true (le-leb (laneLength h) (length output) (omega (arith, long)));
       unread = λ output l. reads-at output false (lt-leb (laneLength h) (length output) (omega (arith, long)));
-      measured = sym (length-at st m name at lookup-finds) ∙ length-found (m .keys) at h headed ∙ ap (λ (n : ℕ). Found (Length n)) long;
+      measured =
+          sym (length-at st m name at lookup-finds) ∙ length-found (m .keys) at h headed
+          ∙ ap (λ (n : ℕ). Found (Length n)) long;
       block = λ i l. (blockPlace (m .lists) (h .head) i, blockLength h i, block-there i (omega (arith, count)));
       blocks =
           ap (shownBlocks w name) (sym count) ∙ shown (blockCount h) (le-refl (blockCount h))

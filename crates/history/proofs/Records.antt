@@ -1,4 +1,5 @@
--- The record of a name in the key pages: what the calls read in it, what writes beside it leave, how it is written. Assumes nothing.
+-- The record of a name in the key pages: what the calls read in it, what writes beside it leave, how it is written.
+-- Assumes nothing.
 use Prim.Native.Nat.{ℕ, _+_, _≤_, _<_}
 use mathlib.Core.Path.{_≡_, sym, ap, _∙_, subst}
 use mathlib.Core.Bool.{true}
@@ -16,17 +17,15 @@ use Rattle.memory_arena.specs.declared.Arena.{Arena}
 use Rattle.memory_arena.specs.Address.{placeOf}
 use Rattle.memory_arena.specs.Pages.{standing}
 use Rattle.memory_arena.proofs.Laws.{standing-facts, good-below}
-use Rattle.shared_arena_hashmap.specs.Probe.{keyLength, goodRecord, keyAt, valuePlace}
-use Rattle.expull.specs.declared.Header.{Header}
-use Rattle.expull.specs.Header.{headerBytes, headerAt, endBytesAt, soundHeader}
-use Rattle.expull.proofs.Laws.Header.{header-length, header-back, ends-back}
-use Rattle.store.specs.declared.State.{State}
-use Rattle.store.specs.declared.Name.the-variants.{Proper}
-use Rattle.store.specs.Name.{nameKind}
-use Rattle.store.specs.Look.{headerOf, headerSound}
-use Rattle.store.specs.Append.{recordBytes}
-use Rattle.store.proofs.Guard.{kind-proper}
-use Rattle.store.proofs.Cases.{record-written as three-writes}
+use Rattle.records.specs.Record.{keyLength, goodRecord, keyAt, valuePlace, headerOf, headerSound, recordBytes}
+use Rattle.expull_header.specs.declared.Header.{Header}
+use Rattle.expull_header.specs.Header.{headerBytes, headerAt, endBytesAt, soundHeader}
+use Rattle.expull_header.proofs.Laws.{header-length, header-back, ends-back}
+use Rattle.store_state.specs.declared.State.{State}
+use Rattle.store_state.specs.declared.Name.the-variants.{Proper}
+use Rattle.store_state.specs.Name.{nameKind}
+use Rattle.store_state.proofs.Guard.{kind-proper}
+use Rattle.records.proofs.Laws.{record-written as three-writes}
 use Rattle.history_lanes.specs.Lane.{usedEnd, HeaderFits}
 use Rattle.history_lanes.proofs.Blocks.{apart-within}
 use Rattle.history.specs.Sound.{Record}
@@ -70,7 +69,8 @@ module _ {keys : List ℕ} {a : Arena} {at : ℕ} {k : List ℕ} {h : Header} (R
     -- the memory is what writing the header that stands there leaves
     rewritten : overwrite (at + 2 + length k) (headerBytes h) keys ≡ keys
     rewritten =
-        ap (λ (bs : List ℕ). overwrite (at + 2 + length k) bs keys) (sym (R .value)) ∙ overwrite-same (at + 2 + length k) valueSize keys
+        ap (λ (bs : List ℕ). overwrite (at + 2 + length k) bs keys) (sym (R .value))
+        ∙ overwrite-same (at + 2 + length k) valueSize keys
 
     module _ (F : HeaderFits h) where
       pub record-header : headerOf keys at ≡ h
@@ -83,7 +83,8 @@ module _ {keys : List ℕ} {a : Arena} {at : ℕ} {k : List ℕ} {h : Header} (R
       record-ends : endBytesAt (valuePlace keys at) keys ≡ 0
       record-ends =
           rw record-place
-          (ap (endBytesAt (at + 2 + length k)) (sym rewritten) ∙ ends-back (at + 2 + length k) h keys (omega (arith, record-in)))
+          (ap (endBytesAt (at + 2 + length k)) (sym rewritten)
+          ∙ ends-back (at + 2 + length k) h keys (omega (arith, record-in)))
 
       pub record-sound : headerSound keys at ≡ true
       unfolding headerSound
@@ -92,7 +93,8 @@ module _ {keys : List ℕ} {a : Arena} {at : ℕ} {k : List ℕ} {h : Header} (R
 -- ---- what is written
 
 -- beside it
-pub record-kept : {keys : List ℕ} {a : Arena} {at : ℕ} {k : List ℕ} {h : Header} → Record keys a at k h → (p : ℕ) (bs : List ℕ)
+pub record-kept : {keys : List ℕ} {a : Arena} {at : ℕ} {k : List ℕ} {h : Header} → Record keys a at k h
+    → (p : ℕ) (bs : List ℕ)
     → Apart p (length bs) at (length k + recordExtra) → Record (overwrite p bs keys) a at k h
 record-kept {keys} {a} {at} {k} {h} R p bs d = record {
   some = R .some;
@@ -104,10 +106,12 @@ record-kept {keys} {a} {at} {k} {h} R p bs d = record {
   value = part (at + 2 + length k) valueSize (omega arith) (omega arith) ∙ R .value;
 }
   where
-    part : (q n : ℕ) → at ≤ q → q + n ≤ at + (length k + recordExtra) → readSpan q n (overwrite p bs keys) ≡ readSpan q n keys
+    part : (q n : ℕ) → at ≤ q → q + n ≤ at + (length k + recordExtra)
+        → readSpan q n (overwrite p bs keys) ≡ readSpan q n keys
     part q n x y =
         read-apart q n p bs keys
-        (apart-within p (length bs) at (length k + recordExtra) p (length bs) q n (le-refl p) (le-refl (p + length bs)) x y d)
+        (apart-within p (length bs) at (length k + recordExtra) p (length bs) q n (le-refl p)
+        (le-refl (p + length bs)) x y d)
 
 -- a used part that grows
 pub record-up : {keys : List ℕ} {a b : Arena} {at : ℕ} {k : List ℕ} {h : Header} → b .size ≡ a .size
@@ -123,7 +127,8 @@ record-up {at = at} {k = k} e g R = record {
 }
 
 -- another header in it
-pub record-revalued : {keys : List ℕ} {a : Arena} {at : ℕ} {k : List ℕ} {h : Header} → Record keys a at k h → standing a (length keys) ≡ true → (g : Header)
+pub record-revalued : {keys : List ℕ} {a : Arena} {at : ℕ} {k : List ℕ} {h : Header} → Record keys a at k h
+    → standing a (length keys) ≡ true → (g : Header)
     → Record (overwrite (at + 2 + length k) (headerBytes g) keys) a at k g
 record-revalued {keys} {a} {at} {k} {h} R s g = record {
   some = R .some;
@@ -132,7 +137,9 @@ record-revalued {keys} {a} {at} {k} {h} R s g = record {
   paged = R .paged;
   size = read-before at 2 (at + 2 + length k) (headerBytes g) keys (omega arith) ∙ R .size;
   key = read-before (at + 2) (length k) (at + 2 + length k) (headerBytes g) keys (omega arith) ∙ R .key;
-  value = rw header-length at (read-written (at + 2 + length k) (headerBytes g) keys (omega (arith, header-length g, record-in R s)));
+  value =
+      rw header-length at (read-written (at + 2 + length k) (headerBytes g) keys
+      (omega (arith, header-length g, record-in R s)));
 }
 
 pub length-record : (k : List ℕ) (h : Header) → length (recordBytes k h) ≡ length k + recordExtra
@@ -165,6 +172,7 @@ record-written keys a at k h z s e p i =
           read-before (at + 2) (length k) (at + 2 + length k) (headerBytes h) _ (omega arith)
           ∙ read-written (at + 2) k (overwrite at (leBytes 2 (length k)) keys) (simp length-overwrite (omega arith));
       value =
-          rw header-length at (read-written (at + 2 + length k) (headerBytes h) (overwrite (at + 2) k (overwrite at (leBytes 2 (length k)) keys))
+          rw header-length at (read-written (at + 2 + length k) (headerBytes h)
+          (overwrite (at + 2) k (overwrite at (leBytes 2 (length k)) keys))
           (simp (length-overwrite, header-length) (omega arith)));
     })

@@ -1,4 +1,5 @@
--- A lane's length settles its header's block number and remaining bytes, so all that an append to it needs. Assumes nothing.
+-- A lane's length settles its header's block number and remaining bytes, so all that an append to it needs. Assumes
+-- nothing.
 use Prim.Native.Nat.{ℕ, zero, suc, _+_, _-_, _*_, _≤_, _<_}
 use mathlib.Core.Path.{_≡_, refl, sym, ap, _∙_}
 use mathlib.Core.Bool.{Bool, true, false}
@@ -9,13 +10,13 @@ use lib.ListN.{length}
 use borrow.Author.Tests.{eqb-true, eqb-false, ltb-true, ltb-false}
 use Rattle.limits.specs.Limits.{freshNumber, linkSize}
 use Rattle.memory_arena.specs.declared.Arena.{Arena}
-use Rattle.expull.specs.declared.Header.{Header}
-use Rattle.expull.specs.Header.{blockSize, fullBytes, blockCount}
-use Rattle.expull.specs.Append.{planned, planOf}
-use Rattle.expull.proofs.Laws.Header.{size-pos, full-more}
-use Rattle.expull.proofs.Laws.Blocks.{full-within}
-use Rattle.store.specs.declared.State.{State}
-use Rattle.store.specs.Look.{Lent}
+use Rattle.expull_header.specs.declared.Header.{Header}
+use Rattle.expull_header.specs.Header.{blockSize, fullBytes, blockCount}
+use Rattle.expull_append.specs.Append.{planned, planOf}
+use Rattle.expull_header.proofs.Laws.{size-pos, full-more}
+use Rattle.expull_walk.proofs.Laws.{full-within}
+use Rattle.store_state.specs.declared.State.{State}
+use Rattle.store_look.specs.Look.{Lent}
 use Rattle.history_lanes.specs.Lane.{content, Lane}
 use Rattle.history_lanes.proofs.Readings.{content-length, lane-count}
 use Rattle.history_lanes.proofs.Room.{wide-sum, lane-room}
@@ -35,7 +36,8 @@ full-none = refl
 -- so many blocks and no more
 fills-most : (n k r k′ r′ : ℕ) → Fills n k r → Fills n k′ r′ → k′ ≤ k
 fills-most n zero r zero r′ F F′ = omega arith
-fills-most n zero r (suc j) r′ F F′ = absurd (omega (arith, F .all, F .none-left refl, F′ .all, F′ .begun j refl, full-more j, full-none))
+fills-most n zero r (suc j) r′ F F′ =
+    absurd (omega (arith, F .all, F .none-left refl, F′ .all, F′ .begun j refl, full-more j, full-none))
 fills-most n (suc i) r k′ r′ F F′ = go (ltb (suc i) k′) refl k′ refl
   where
     go : (b : Bool) → ltb (suc i) k′ ≡ b → (x : ℕ) → k′ ≡ x → k′ ≤ suc i
@@ -44,7 +46,17 @@ fills-most n (suc i) r k′ r′ F F′ = go (ltb (suc i) k′) refl k′ refl
     go true e (suc j) q = let l : suc i < k′ = ltb-true (suc i) k′ e in absurd (over (ltb (suc i) j) refl)
       where
         over : (b : Bool) → ltb (suc i) j ≡ b → ⊥
-        over true p = omega (arith, ltb-true (suc i) j p, F .all, F′ .all, ap fullBytes q, F′ .begun j q, full-more j, full-within (suc i) j (ltb-true (suc i) j p))
+        over true p =
+            omega (
+              arith,
+              ltb-true (suc i) j p,
+              F .all,
+              F′ .all,
+              ap fullBytes q,
+              F′ .begun j q,
+              full-more j,
+              full-within (suc i) j (ltb-true (suc i) j p),
+            )
         over false p =
             let z : j ≡ suc i = omega (arith, ltb-true (suc i) k′ e, ltb-false (suc i) j p) in
             omega (arith, F .all, F′ .all, ap fullBytes q, F′ .begun j q, full-more j, ap fullBytes z)
@@ -80,7 +92,8 @@ more-fills n h l F = go (eqb (h .remaining) 0) refl
       begun = λ j q. omega (arith, F .begun j q);
     }
 
-    go : (b : Bool) → eqb (h .remaining) 0 ≡ b → (freshNumber ≤ oneMore h .number) × Fills (suc n) (blockCount (oneMore h)) (oneMore h .remaining)
+    go : (b : Bool) → eqb (h .remaining) 0 ≡ b
+        → (freshNumber ≤ oneMore h .number) × Fills (suc n) (blockCount (oneMore h)) (oneMore h .remaining)
     go true e = rw e (omega arith, grows (eqb-true (h .remaining) 0 e))
     go false e = rw e (l, stays (eqb-false (h .remaining) 0 e))
 
@@ -89,8 +102,10 @@ unfolding shapeOf fullBytes
 shape-fills zero = (omega arith, record { all = refl; none-left = λ z. refl; begun = λ j z. absurd (omega arith) })
 shape-fills (suc n) = more-fills n (shapeOf n) (shape-fills n .0) (shape-fills n .1)
 
-lane-fills : (m : List ℕ) (a : Arena) (h : Header) (ks : List ℕ) → Lane m a h ks → Fills (length (content m ks (h .remaining))) (length ks) (h .remaining)
-lane-fills m a h [] L = record { all = content-length m a h [] L; none-left = λ z. L .tip .2; begun = λ j z. absurd (omega arith) }
+lane-fills : (m : List ℕ) (a : Arena) (h : Header) (ks : List ℕ) → Lane m a h ks
+    → Fills (length (content m ks (h .remaining))) (length ks) (h .remaining)
+lane-fills m a h [] L =
+    record { all = content-length m a h [] L; none-left = λ z. L .tip .2; begun = λ j z. absurd (omega arith) }
 lane-fills m a h (x ∷ ks) L = record {
   all = content-length m a h (x ∷ ks) L;
   none-left = λ z. absurd (omega arith);
@@ -98,7 +113,8 @@ lane-fills m a h (x ∷ ks) L = record {
 }
 
 -- a dry run knows of the header nothing else
-due-same : (st : State) (l : Lent) (h g : Header) (k : ℕ) → h .number ≡ g .number → h .remaining ≡ g .remaining → dueList st l h k ≡ dueList st l g k
+due-same : (st : State) (l : Lent) (h g : Header) (k : ℕ) → h .number ≡ g .number → h .remaining ≡ g .remaining
+    → dueList st l h k ≡ dueList st l g k
 unfolding dueList planOf
 due-same st l h g k p q = λ i. dueBlocks (planned (k - q i) (length (l .lists)) (st .«list_arena») (p i) (k - q i))
 
@@ -107,7 +123,9 @@ module _ (m : List ℕ) (a : Arena) (h : Header) (ks : List ℕ) (L : Lane m a h
   n = length (content m ks (h .remaining))
 
   same : (length ks ≡ blockCount (shapeOf n)) × (h .remaining ≡ shapeOf n .remaining)
-  same = fills-same n (length ks) (h .remaining) (blockCount (shapeOf n)) (shapeOf n .remaining) (lane-fills m a h ks L) (shape-fills n .1)
+  same =
+      fills-same n (length ks) (h .remaining) (blockCount (shapeOf n)) (shapeOf n .remaining) (lane-fills m a h ks L)
+      (shape-fills n .1)
 
   -- the header's numbers are those that its length settles
   pub lane-number : h .number ≡ shapeOf n .number

@@ -13,10 +13,10 @@ use Rattle.limits.specs.Limits.{linkSize}
 use Rattle.spans.specs.Span.{readSpan, Apart}
 use Rattle.memory_arena.specs.declared.Arena.{Arena}
 use Rattle.memory_arena.proofs.Laws.{good-end}
-use Rattle.expull.specs.declared.Header.{Header}
-use Rattle.expull.specs.Header.{blockSize, blockCount}
-use Rattle.expull.specs.Blocks.{blockPlace, blockLength}
-use Rattle.expull.proofs.Laws.Blocks.{block-last, block-whole}
+use Rattle.expull_header.specs.declared.Header.{Header}
+use Rattle.expull_header.specs.Header.{blockSize, blockCount}
+use Rattle.expull_walk.specs.Blocks.{blockPlace, blockLength}
+use Rattle.expull_walk.proofs.Laws.{block-last, block-whole}
 use Rattle.history_lanes.specs.Lane.{wideOn, Links, Below, oldest, Clear, TipApart, TipClear, usedEnd, Lane, After}
 use Rattle.history_lanes.proofs.Blocks.{apart-within}
 use Rattle.history_lanes.proofs.Readings.{lane-block, place-newest}
@@ -51,17 +51,21 @@ module _ (P : ℕ → ℕ → Type 0) (m : List ℕ) (hd : ℕ) where
       go true q f = rw (eqb-true i (length (y ∷ ks)) q, place-newest m hd x (y ∷ ks) l e) (a .0)
       go false q f = let z : i ≡ suc (length ks) → ⊥ = eqb-false i (length (y ∷ ks)) q in f (omega arith)
 
-  every-index : (x : ℕ) (ks : List ℕ) → Links m (x ∷ ks) → hd ≡ oldest x ks → ((i : ℕ) → i ≤ length ks → AtIndex i) → Every P (x ∷ ks)
+  every-index : (x : ℕ) (ks : List ℕ) → Links m (x ∷ ks) → hd ≡ oldest x ks → ((i : ℕ) → i ≤ length ks → AtIndex i)
+      → Every P (x ∷ ks)
   every-index x [] l e f = (rw (place-newest m hd x [] l e) at (f 0 (omega arith)), tt)
-  every-index x (y ∷ ks) l e f =
-      (rw (place-newest m hd x (y ∷ ks) l e) at (f (length (y ∷ ks)) (le-refl (length (y ∷ ks)))), every-index y ks (l .1) e (λ i h. f i (omega arith)))
+  every-index x (y ∷ ks) l e f = (
+    rw (place-newest m hd x (y ∷ ks) l e) at (f (length (y ∷ ks)) (le-refl (length (y ∷ ks)))),
+    every-index y ks (l .1) e (λ i h. f i (omega arith)),
+  )
 
 -- a span apart from each block that can be found is clear of the blocks
 pub lane-clear : (m : List ℕ) (a : Arena) (h : Header) (ks : List ℕ) → Lane m a h ks → (q n : ℕ)
     → ((i : ℕ) → i < blockCount h → Apart q n (blockPlace m (h .head) i) (blockSize (i + 3) + linkSize)) → Clear q n ks
 lane-clear m a h [] L q n f = tt
 lane-clear m a h (x ∷ ks) L q n f =
-    every-clear q n (x ∷ ks) (every-index (Apart q n) m (h .head) x ks (L .links) (L .tip .0) (λ i k. f i (omega (arith, L .number))))
+    every-clear q n (x ∷ ks)
+    (every-index (Apart q n) m (h .head) x ks (L .links) (L .tip .0) (λ i k. f i (omega (arith, L .number))))
 
 -- what a lane tells of block i ends within its place
 told-within : (h : Header) (i : ℕ) → i < blockCount h → blockLength h i ≤ blockSize (i + 3)
@@ -110,18 +114,23 @@ told-below m a h (x ∷ y ∷ ks) L i k = go (eqb i (suc (length ks))) refl
           arith,
           L .tip,
           told-within h i k,
-          index-every (λ p w. p + w ≤ x) m (h .head) y ks (L .links .1) (L .tip .0) (below-every x (y ∷ ks) (L .tip .3 .0)) i (omega (arith, L .number)),
+          index-every (λ p w. p + w ≤ x) m (h .head) y ks (L .links .1) (L .tip .0)
+              (below-every x (y ∷ ks) (L .tip .3 .0)) i (omega (arith, L .number)),
         )
 
 -- ---- what an append leaves of the bytes that blocks told of
 
-module _ (m : List ℕ) (a : Arena) (h : Header) (ks bs m′ : List ℕ) (a′ : Arena) (h′ : Header) (ks′ : List ℕ) (A : After m a h ks bs m′ a′ h′ ks′) where
-  told-used : (g : Header) (js : List ℕ) → Lane m a g js → (i : ℕ) → i < blockCount g → blockPlace m (g .head) i + blockLength g i ≤ usedEnd a
-  told-used g js L i k = good-end a (blockPlace m (g .head) i) (blockLength g i) (length m) (L .stands) (lane-block m a g js L i k .good)
+module _ (m : List ℕ) (a : Arena) (h : Header) (ks bs m′ : List ℕ) (a′ : Arena) (h′ : Header) (ks′ : List ℕ)
+    (A : After m a h ks bs m′ a′ h′ ks′) where
+  told-used : (g : Header) (js : List ℕ) → Lane m a g js → (i : ℕ) → i < blockCount g
+      → blockPlace m (g .head) i + blockLength g i ≤ usedEnd a
+  told-used g js L i k =
+      good-end a (blockPlace m (g .head) i) (blockLength g i) (length m) (L .stands) (lane-block m a g js L i k .good)
 
   -- of its own lane
   pub told-own : Lane m a h ks → (i : ℕ) → i < blockCount h
-      → readSpan (blockPlace m (h .head) i) (blockLength h i) m′ ≡ readSpan (blockPlace m (h .head) i) (blockLength h i) m
+      → readSpan (blockPlace m (h .head) i) (blockLength h i) m′
+      ≡ readSpan (blockPlace m (h .head) i) (blockLength h i) m
   told-own L i k =
       A .rest (blockPlace m (h .head) i) (blockLength h i) (told-used h ks L i k) (inr (told-below m a h ks L i k))
 
@@ -130,11 +139,15 @@ module _ (m : List ℕ) (a : Arena) (h : Header) (ks bs m′ : List ℕ) (a′ :
   tip-apart [] g js L t i k = tt
   tip-apart (x ∷ ks) g [] L t i k = absurd (omega (arith, L .number))
   tip-apart (x ∷ ks) g (y ∷ js) L t i k =
-      apart-within x (wideOn ks) (blockPlace m (g .head) i) (blockSize (i + 3) + linkSize) x (wideOn ks) (blockPlace m (g .head) i) (blockLength g i)
+      apart-within x (wideOn ks) (blockPlace m (g .head) i) (blockSize (i + 3) + linkSize) x (wideOn ks)
+      (blockPlace m (g .head) i) (blockLength g i)
       (le-refl x) (le-refl (x + wideOn ks)) (le-refl (blockPlace m (g .head) i)) (omega (arith, told-within g i k))
-      (index-every (Apart x (wideOn ks)) m (g .head) y js (L .links) (L .tip .0) (clear-every x (wideOn ks) (y ∷ js) t) i (omega (arith, L .number)))
+      (index-every (Apart x (wideOn ks)) m (g .head) y js (L .links) (L .tip .0)
+      (clear-every x (wideOn ks) (y ∷ js) t) i (omega (arith, L .number)))
 
   -- of another
   pub told-other : (g : Header) (js : List ℕ) → Lane m a g js → TipClear ks js → (i : ℕ) → i < blockCount g
-      → readSpan (blockPlace m (g .head) i) (blockLength g i) m′ ≡ readSpan (blockPlace m (g .head) i) (blockLength g i) m
-  told-other g js L t i k = A .span (blockPlace m (g .head) i) (blockLength g i) (told-used g js L i k) (tip-apart ks g js L t i k)
+      → readSpan (blockPlace m (g .head) i) (blockLength g i) m′
+      ≡ readSpan (blockPlace m (g .head) i) (blockLength g i) m
+  told-other g js L t i k =
+      A .span (blockPlace m (g .head) i) (blockLength g i) (told-used g js L i k) (tip-apart ks g js L t i k)

@@ -9,14 +9,14 @@ use lib.Dec.{ltb}
 use lib.ListN.{length, length-append}
 use borrow.Author.Tests.{ltb-true, ltb-false}
 use Rattle.memory_arena.specs.declared.Arena.{Arena}
-use Rattle.expull.specs.declared.Header.{Header}
-use Rattle.expull.specs.Header.{blockCount}
-use Rattle.expull.specs.Blocks.{blockPlace, blockLength}
-use Rattle.store.specs.declared.Lookup.{Lookup}
-use Rattle.store.specs.declared.Lookup.the-variants.{Failed}
-use Rattle.store.specs.declared.Answer.the-variants.{Found, Refused}
-use Rattle.store.specs.declared.Outcome.the-variants.{Block}
-use Rattle.store.specs.Look.{lookupOf, onLookup, blockAt, findBlockOf}
+use Rattle.expull_header.specs.declared.Header.{Header}
+use Rattle.expull_header.specs.Header.{blockCount}
+use Rattle.expull_walk.specs.Blocks.{blockPlace, blockLength}
+use Rattle.store_look.specs.declared.Lookup.{Lookup}
+use Rattle.store_look.specs.declared.Lookup.the-variants.{Failed}
+use Rattle.store_look.specs.declared.Answer.the-variants.{Found, Refused}
+use Rattle.store_look.specs.declared.Outcome.the-variants.{Block}
+use Rattle.store_look.specs.Look.{lookupOf, onLookup, blockAt, findBlockOf}
 use Rattle.history_lanes.specs.Lane.{Links, oldest, Lane}
 use Rattle.history_lanes.proofs.Readings.{lane-count, place-newest}
 use Rattle.history.specs.History.{World}
@@ -83,12 +83,14 @@ place-stays m a h ks m′ a′ h′ ks′ L L′ g i l =
     ∙ ap (blockPlace m (h .head)) (B .index)
 
 -- as the store tells it, of a name that stands
-pub found-stays : {w w′ : World} {G G′ : Ghosts} → Sound w G → Sound w′ G′ → Stays G G′ → (name : List ℕ) → Stands G name
+pub found-stays : {w w′ : World} {G G′ : Ghosts} → Sound w G → Sound w′ G′ → Stays G G′ → (name : List ℕ)
+    → Stands G name
     → (i at n : ℕ) → findBlockOf (w .state) (w .memory) name i ≡ Found (Block at n)
     → (k : ℕ) × (findBlockOf (w′ .state) (w′ .memory) name i ≡ Found (Block at k))
 found-stays {w} {w′} {G} {G′} S S′ A name M i at n e = go (ltb i (blockCount (G .header name))) refl
   where
-    there : i < blockCount (G .header name) → (k : ℕ) × (findBlockOf (w′ .state) (w′ .memory) name i ≡ Found (Block at k))
+    there : i < blockCount (G .header name)
+        → (k : ℕ) × (findBlockOf (w′ .state) (w′ .memory) name i ≡ Found (Block at k))
     there l =
         let a = A name M in
         let L = S .lanes name M in

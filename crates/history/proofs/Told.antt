@@ -1,5 +1,5 @@
--- A history keeps a store sound, and what stands in it is what the history says: of each name its accepted appends joined in order, and of all
--- names those of accepted appends. Assumes nothing.
+-- A history keeps a store sound, and what stands in it is what the history says: of each name its accepted appends
+-- joined in order, and of all names those of accepted appends. Assumes nothing.
 use Prim.Native.Nat.{ℕ, suc, _+_}
 use mathlib.Core.Path.{_≡_, refl, sym, ap, _∙_, subst}
 use mathlib.Core.Logic.{inl, inr, ⊎-elim}
@@ -10,8 +10,8 @@ use native.Mathlib.Omega.{arith}
 use lib.ListN.{length, length-append}
 use Rattle.fastcmp.specs.Equal.{equalBytes}
 use Rattle.fastcmp.proofs.Laws.{equal-same, equal-not, equal-true}
-use Rattle.store.specs.declared.Appended.the-variants.{Accepted}
-use Rattle.store.specs.Append.{Out, out, declined}
+use Rattle.store_append.specs.declared.Appended.the-variants.{Accepted}
+use Rattle.store_append.specs.Append.{Out, out, declined}
 use Rattle.history_names.specs.Listing.{times}
 use Rattle.history_names.proofs.Lookup.{decide-name}
 use Rattle.history.specs.History.{World, Call, appends, looksUp, asksLength, reads, findsBlock, showsBlock}
@@ -48,7 +48,8 @@ times-end j n [] = go (equalBytes j n)
 times-end j n (m ∷ ns) = go (equalBytes j m) (times-end j n ns)
   where
     go : (b : Bool) → times j (ns ++ (n ∷ [])) ≡ times j ns + cond (equalBytes j n) 1 0
-        → cond b (suc (times j (ns ++ (n ∷ [])))) (times j (ns ++ (n ∷ []))) ≡ cond b (suc (times j ns)) (times j ns) + cond (equalBytes j n) 1 0
+        → cond b (suc (times j (ns ++ (n ∷ [])))) (times j (ns ++ (n ∷ [])))
+        ≡ cond b (suc (times j ns)) (times j ns) + cond (equalBytes j n) 1 0
     go true e = omega arith
     go false e = e
 
@@ -57,7 +58,8 @@ unfolding times among
 times-none j [] e = refl
 times-none j (n ∷ ns) e = go (equalBytes j n) e (times-none j ns)
   where
-    go : (b : Bool) → cond b true (among j ns) ≡ false → (among j ns ≡ false → times j ns ≡ 0) → cond b (suc (times j ns)) (times j ns) ≡ 0
+    go : (b : Bool) → cond b true (among j ns) ≡ false → (among j ns ≡ false → times j ns ≡ 0)
+        → cond b (suc (times j ns)) (times j ns) ≡ 0
     go true e f = absurd (false≢true (sym e))
     go false e f = f e
 
@@ -141,7 +143,8 @@ module _ {w : World} {G : Ghosts} (S : Sound w G) (name bytes : List ℕ) (w′ 
 
       go : Dec (j ≡ name) → Stands (T .ghosts) j × Grown (G .blocks j) (T .ghosts .blocks j)
       go (yes e) =
-          subst (λ (j : List ℕ). Stands G j → Stands (T .ghosts) j × Grown (G .blocks j) (T .ghosts .blocks j)) (sym e) own m
+          subst (λ (j : List ℕ). Stands G j → Stands (T .ghosts) j × Grown (G .blocks j) (T .ghosts .blocks j))
+          (sym e) own m
       go (no e) = (T .kept j m, ([], T .others-blocks j e m))
 
   took-counts : (ns : List (List ℕ)) → Counts w G ns → Counts w′ (T .ghosts) (withName name ns)
@@ -156,9 +159,12 @@ module _ {w : World} {G : Ghosts} (S : Sound w G) (name bytes : List ℕ) (w′ 
       }
       go false e = record {
         many = omega (arith, T .fresh-one strange .1, C .many, length-append ns (name ∷ []));
-        all = λ j m. rw (among-end j name ns) (⊎-elim (λ q. named j (among j ns) q) (λ o. rw (C .all j o)) (T .only j m));
+        all =
+            λ j m. rw (among-end j name ns) (⊎-elim (λ q. named j (among j ns) q) (λ o. rw (C .all j o)) (T .only j m));
         only = λ j m. back j (among j ns) refl (equalBytes j name) refl (sym (among-end j name ns) ∙ m);
-        once = λ j m. rw (times-end j name ns) (one j (among j ns) refl (equalBytes j name) refl (sym (among-end j name ns) ∙ m));
+        once =
+            λ j m. rw (times-end j name ns)
+            (one j (among j ns) refl (equalBytes j name) refl (sym (among-end j name ns) ∙ m));
       }
         where
           strange : Stands G name → ⊥
@@ -168,13 +174,16 @@ module _ {w : World} {G : Ghosts} (S : Sound w G) (name bytes : List ℕ) (w′ 
           named j true q = refl
           named j false q = equal-same j name q
 
-          back : (j : List ℕ) (b : Bool) → among j ns ≡ b → (c : Bool) → equalBytes j name ≡ c → cond b true c ≡ true → Stands (T .ghosts) j
+          back : (j : List ℕ) (b : Bool) → among j ns ≡ b → (c : Bool) → equalBytes j name ≡ c → cond b true c ≡ true
+              → Stands (T .ghosts) j
           back j true p c q r = T .kept j (C .only j p)
           back j false p true q r = subst (Stands (T .ghosts)) (sym (equal-true j name q)) (T .new)
           back j false p false q r = absurd (false≢true r)
 
-          one : (j : List ℕ) (b : Bool) → among j ns ≡ b → (c : Bool) → equalBytes j name ≡ c → cond b true c ≡ true → times j ns + cond c 1 0 ≡ 1
-          one j true p true q r = absurd (false≢true (sym e ∙ ap (λ (k : List ℕ). among k ns) (sym (equal-true j name q)) ∙ p))
+          one : (j : List ℕ) (b : Bool) → among j ns ≡ b → (c : Bool) → equalBytes j name ≡ c → cond b true c ≡ true
+              → times j ns + cond c 1 0 ≡ 1
+          one j true p true q r =
+              absurd (false≢true (sym e ∙ ap (λ (k : List ℕ). among k ns) (sym (equal-true j name q)) ∙ p))
           one j true p false q r = omega (arith, C .once j p)
           one j false p true q r = omega (arith, times-none j ns p)
           one j false p false q r = absurd (false≢true r)

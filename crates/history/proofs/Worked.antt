@@ -4,9 +4,9 @@ use mathlib.Core.List.{[], _∷_}
 use native.Mathlib.Omega.{arith}
 use lib.ListN.{replicate}
 use Rattle.spans.specs.Span.{overwrite}
-use Rattle.store.specs.declared.Answer.the-variants.{Found}
-use Rattle.store.specs.declared.Outcome.the-variants.{Reading}
-use Rattle.store.specs.Look.{reading, readOf}
+use Rattle.store_look.specs.declared.Answer.the-variants.{Found}
+use Rattle.store_look.specs.declared.Outcome.the-variants.{Reading}
+use Rattle.store_look.specs.Look.{reading, readOf}
 use Rattle.history.specs.History.{play}
 use Rattle.history.specs.Promises.{ReadsAs, ReadsBack}
 use Rattle.history.specs.Demand.{Demand3}

@@ -6,12 +6,12 @@ use mathlib.Core.Option.{none, some}
 use mathlib.Core.List.{List, [], _∷_, _++_}
 use lib.ListN.{replicate}
 use Rattle.shared_arena_hashmap.specs.Buckets.{cleared}
-use Rattle.store.specs.declared.Answer.the-variants.{Absent, Found}
-use Rattle.store.specs.declared.Outcome.the-variants.{Reading, Block, NoSuchBlock}
-use Rattle.store.specs.declared.Counted.the-variants.{Keys}
-use Rattle.store.specs.Create.{freshState, createOf}
-use Rattle.store.specs.Look.{lent, reading, readOf, findBlockOf, nextOf, countOf}
-use Rattle.store.specs.Append.{appendOf}
+use Rattle.store_look.specs.declared.Answer.the-variants.{Absent, Found}
+use Rattle.store_look.specs.declared.Outcome.the-variants.{Reading, Block, NoSuchBlock}
+use Rattle.store_look.specs.declared.Counted.the-variants.{Keys}
+use Rattle.store_create.specs.Create.{freshState, createOf}
+use Rattle.store_look.specs.Look.{lent, reading, readOf, findBlockOf, nextOf, countOf}
+use Rattle.store_append.specs.Append.{appendOf}
 use Rattle.history.specs.History.{World, Born, Call, appends, reads, listsFrom, play, entry, logOf}
 use Rattle.history.specs.History.{joined, joinedIn, acceptedNames, namesIn, acceptedBytes, bytesIn}
 use Rattle.history.specs.Due.{due}

@@ -8,11 +8,11 @@ use mathlib.Core.Bool.{true}
 use mathlib.Core.Option.{none}
 use mathlib.Core.List.{List, [], _++_}
 use lib.ListN.{length}
-use Rattle.store.specs.declared.Lookup.the-variants.{Failed}
-use Rattle.store.specs.declared.Answer.the-variants.{Found}
-use Rattle.store.specs.declared.Outcome.the-variants.{Block}
-use Rattle.store.specs.Name.{nameLimitOf}
-use Rattle.store.specs.Look.{checked, lookupOf, findBlockOf}
+use Rattle.store_look.specs.declared.Lookup.the-variants.{Failed}
+use Rattle.store_look.specs.declared.Answer.the-variants.{Found}
+use Rattle.store_look.specs.declared.Outcome.the-variants.{Block}
+use Rattle.store_state.specs.Name.{nameLimitOf}
+use Rattle.store_look.specs.Look.{checked, lookupOf, findBlockOf}
 use Rattle.history.specs.History.{World, Call, appends, accepts, after, play, logOf, joined, isJoined}
 use Rattle.history.specs.History.{among, acceptedNames}
 use Rattle.history.specs.Due.{due}

@@ -12,13 +12,13 @@ use Rattle.memory_arena.specs.declared.Arena.{Arena}
 use Rattle.memory_arena.specs.declared.Allocated.{Allocated}
 use Rattle.memory_arena.specs.declared.Allocated.the-variants.{At, NoRoom, Refused}
 use Rattle.memory_arena.specs.Pages.{roomFor}
-use Rattle.expull.specs.declared.Header.{Header}
-use Rattle.expull.specs.Header.{blockSize, fresh}
-use Rattle.expull.specs.Append.{planOf}
-use Rattle.store.specs.declared.State.{State}
-use Rattle.store.specs.Name.{nameKind, byKind}
-use Rattle.store.specs.Look.{Lent}
-use Rattle.store.specs.Append.{isCrowded}
+use Rattle.expull_header.specs.declared.Header.{Header}
+use Rattle.expull_header.specs.Header.{blockSize, fresh}
+use Rattle.expull_append.specs.Append.{planOf}
+use Rattle.store_state.specs.declared.State.{State}
+use Rattle.store_state.specs.Name.{nameKind, byKind}
+use Rattle.store_look.specs.Look.{Lent}
+use Rattle.store_append.specs.Append.{isCrowded}
 
 -- RULES Y7. The header of a list that holds n bytes, as far as its length settles it: block number and remaining bytes.
 -- What an append needs hangs on no address.

@@ -13,16 +13,16 @@ use Rattle.murmurhash2.specs.Murmur.{murmurHash2}
 use Rattle.memory_arena.specs.declared.Allocated.the-variants.{At as Room·At}
 use Rattle.memory_arena.specs.Pages.{roomFor}
 use Rattle.shared_arena_hashmap.specs.Power.{grownLength}
-use Rattle.shared_arena_hashmap.specs.Probe.{valuePlace}
-use Rattle.expull.specs.declared.Header.{Header}
-use Rattle.expull.specs.Header.{blockSize, blockCount}
-use Rattle.expull.specs.Blocks.{blockPlace}
-use Rattle.store.specs.declared.Lookup.the-variants.{At}
-use Rattle.store.specs.declared.Answer.the-variants.{Found}
-use Rattle.store.specs.declared.Outcome.the-variants.{Block}
-use Rattle.store.specs.State.{firstOf}
-use Rattle.store.specs.Look.{lookupOf, headerOf, findBlockOf}
-use Rattle.store.specs.Append.{grows, grownState, tableGrown}
+use Rattle.records.specs.Record.{valuePlace, headerOf}
+use Rattle.expull_header.specs.declared.Header.{Header}
+use Rattle.expull_header.specs.Header.{blockSize, blockCount}
+use Rattle.expull_walk.specs.Blocks.{blockPlace}
+use Rattle.store_look.specs.declared.Lookup.the-variants.{At}
+use Rattle.store_look.specs.declared.Answer.the-variants.{Found}
+use Rattle.store_look.specs.declared.Outcome.the-variants.{Block}
+use Rattle.store_state.specs.State.{firstOf}
+use Rattle.store_look.specs.Look.{lookupOf, findBlockOf}
+use Rattle.store_append.specs.Append.{grows, grownState, tableGrown}
 use Rattle.history_lanes.specs.Lane.{usedEnd}
 use Rattle.history_names.specs.Table.{Outside, OneBucket}
 use Rattle.history.specs.History.{World, isJoined}

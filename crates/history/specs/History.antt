@@ -10,13 +10,13 @@ use Rattle.fastcmp.specs.Equal.{equalBytes}
 -- the log's entries, and what they come to for a name: the flat store's log is of the same
 pub use Rattle.entries.specs.Log.{Entry, entry, joinedOn}
 unfoldable pub use Rattle.entries.specs.Log.{joinedIn}
-use Rattle.store.specs.declared.State.{State}
-use Rattle.store.specs.declared.Created.the-variants.{Made}
-use Rattle.store.specs.declared.Appended.{Appended}
-use Rattle.store.specs.declared.Appended.the-variants.{Accepted, Declined}
-use Rattle.store.specs.Create.{out, createOf}
-use Rattle.store.specs.Look.{Lent}
-use Rattle.store.specs.Append.{Out, appendOf}
+use Rattle.store_state.specs.declared.State.{State}
+use Rattle.store_create.specs.declared.Created.the-variants.{Made}
+use Rattle.store_append.specs.declared.Appended.{Appended}
+use Rattle.store_append.specs.declared.Appended.the-variants.{Accepted, Declined}
+use Rattle.store_create.specs.Create.{out, createOf}
+use Rattle.store_look.specs.Look.{Lent}
+use Rattle.store_append.specs.Append.{Out, appendOf}
 
 -- RULES Y1. A store: its state, and the memory lent to it
 pub record World : Type 0 where

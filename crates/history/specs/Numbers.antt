@@ -7,15 +7,16 @@ use mathlib.Core.List.{List, [], _∷_}
 use lib.Dec.{leb, eqb}
 use lib.ListN.{length}
 use Rattle.limits.specs.Refusals.{numberIn, isAmong}
-use Rattle.store.specs.declared.State.{State}
-use Rattle.store.specs.declared.Appended.{Appended}
-use Rattle.store.specs.declared.Lookup.{Lookup}
-use Rattle.store.specs.declared.Answer.{Answer}
-use Rattle.store.specs.declared.Listed.{Listed}
-use Rattle.store.specs.declared.Counted.{Counted}
-use Rattle.store.specs.Said.{saidAppended, saidLookup, saidAnswer, saidListed, saidCounted}
-use Rattle.store.specs.Name.{nameKind, byKind}
-use Rattle.store.specs.Look.{lookupOf, lengthOf, readOf, findBlockOf, nextOf, countOf}
+use Rattle.store_state.specs.declared.State.{State}
+use Rattle.store_append.specs.declared.Appended.{Appended}
+use Rattle.store_look.specs.declared.Lookup.{Lookup}
+use Rattle.store_look.specs.declared.Answer.{Answer}
+use Rattle.store_look.specs.declared.Listed.{Listed}
+use Rattle.store_look.specs.declared.Counted.{Counted}
+use Rattle.store_look.specs.Said.{saidLookup, saidAnswer, saidListed, saidCounted}
+use Rattle.store_append.specs.Said.{saidAppended}
+use Rattle.store_state.specs.Name.{nameKind, byKind}
+use Rattle.store_look.specs.Look.{lookupOf, lengthOf, readOf, findBlockOf, nextOf, countOf}
 use Rattle.history.specs.History.{World, Call, appends, looksUp, asksLength, reads, findsBlock, showsBlock}
 use Rattle.history.specs.History.{listsFrom, countsKeys, appendIn}
 use Rattle.history.specs.Due.{due}

@@ -8,20 +8,20 @@ use mathlib.Core.List.{List, [], _∷_, _++_, map}
 use lib.ListN.{length}
 use Rattle.limits.specs.Limits.{numberLimit, linkSize}
 use Rattle.spans.specs.Span.{readSpan, overwrite}
-use Rattle.shared_arena_hashmap.specs.Probe.{keyAt}
-use Rattle.expull.specs.Header.{blockSize, blockCount, fullBytes, laneLength}
-use Rattle.expull.specs.Blocks.{laneBytes}
+use Rattle.records.specs.Record.{keyAt, headerOf}
+use Rattle.expull_header.specs.Header.{blockSize, blockCount, fullBytes, laneLength}
+use Rattle.expull_walk.specs.Blocks.{laneBytes}
 use Rattle.history_names.specs.Listing.{times}
-use Rattle.store.specs.declared.Lookup.the-variants.{At, Missing}
-use Rattle.store.specs.declared.Answer.{Answer}
-use Rattle.store.specs.declared.Answer.the-variants.{Absent, Found, Refused}
-use Rattle.store.specs.declared.Outcome.the-variants.{Length, Reading, Block, NoSuchBlock}
-use Rattle.store.specs.declared.Listed.{Listed}
-use Rattle.store.specs.declared.Listed.the-variants.{Bucket, NoMore, Stopped}
-use Rattle.store.specs.declared.Counted.the-variants.{Keys}
-use Rattle.store.specs.Look.{lookupOf, lengthOf, reading, readOf, findBlockOf, showOf, nextOf, countOf}
-use Rattle.store.specs.Look.{headerOf, blocksSound}
-use Rattle.store.specs.Append.{declined}
+use Rattle.store_look.specs.declared.Lookup.the-variants.{At, Missing}
+use Rattle.store_look.specs.declared.Answer.{Answer}
+use Rattle.store_look.specs.declared.Answer.the-variants.{Absent, Found, Refused}
+use Rattle.store_look.specs.declared.Outcome.the-variants.{Length, Reading, Block, NoSuchBlock}
+use Rattle.store_look.specs.declared.Listed.{Listed}
+use Rattle.store_look.specs.declared.Listed.the-variants.{Bucket, NoMore, Stopped}
+use Rattle.store_look.specs.declared.Counted.the-variants.{Keys}
+use Rattle.store_look.specs.Look.{lookupOf, lengthOf, reading, readOf, findBlockOf, showOf, nextOf, countOf}
+use Rattle.store_look.specs.Look.{blocksSound}
+use Rattle.store_append.specs.Append.{declined}
 use Rattle.history.specs.History.{World, appendIn, isAccepted, among}
 use Rattle.history.specs.Due.{shapeOf}
 use Rattle.history.specs.Numbers.{appendedNumber}

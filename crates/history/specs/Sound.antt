@@ -11,10 +11,10 @@ use Rattle.spans.specs.Span.{readSpan, Apart}
 use Rattle.murmurhash2.specs.Murmur.{murmurHash2}
 use Rattle.memory_arena.specs.declared.Arena.{Arena}
 use Rattle.memory_arena.specs.Address.{placeOf}
-use Rattle.expull.specs.declared.Header.{Header}
-use Rattle.expull.specs.Header.{headerBytes}
-use Rattle.store.specs.State.{firstOf}
-use Rattle.store.specs.Look.{checked}
+use Rattle.expull_header.specs.declared.Header.{Header}
+use Rattle.expull_header.specs.Header.{headerBytes}
+use Rattle.store_state.specs.State.{firstOf}
+use Rattle.store_look.specs.Look.{checked}
 use Rattle.history_lanes.specs.Lane.{wideOn, content, Clear, usedEnd, Lane}
 use Rattle.history_names.specs.Table.{Names, Member, occupied, Table}
 use Rattle.history.specs.History.{World}

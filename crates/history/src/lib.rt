@@ -8,5 +8,6 @@
 // any lent memory and of every list of calls, over the very definitions that the store's contracts cite. It assumes
 // nothing.
 //
-// It uses limits, numbers, spans, fastcmp, murmurhash2, memory_arena, shared_arena_hashmap, expull, store,
-// history_lanes and history_names.
+// It uses limits, numbers, spans, fastcmp, murmurhash2, memory_arena, records, shared_arena_hashmap, expull_header,
+// expull_walk, expull_append, store_state, store_create, store_look, store_append, store, history_lanes and
+// history_names.

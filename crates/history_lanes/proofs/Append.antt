@@ -21,14 +21,13 @@ use Rattle.memory_arena.specs.declared.Allocated.the-variants.{At, NoRoom, Refu
 use Rattle.memory_arena.specs.Address.{placeOf}
 use Rattle.memory_arena.specs.Pages.{standing, roomFor}
 use Rattle.memory_arena.proofs.Laws.{place-of, standing-facts, standing-made, Room, room-size, room-facts}
-use Rattle.expull.specs.declared.Header.{Header}
-use Rattle.expull.specs.Header.{blockSize, fresh}
-use Rattle.expull.proofs.Laws.Header.{size-pos}
-use Rattle.expull.specs.Append.{Writing, writing, nextWide, headWith, linked, headerWith, withBlock, onRoom}
-use Rattle.expull.specs.Append.{takeBlock, ready, moved, filled, andThen, appended}
+use Rattle.expull_header.specs.declared.Header.{Header}
+use Rattle.expull_header.specs.Header.{blockSize, fresh}
+use Rattle.expull_header.proofs.Laws.{size-pos}
+use Rattle.expull_append.specs.Append.{Writing, writing, nextWide, headWith, linked, headerWith, withBlock, onRoom}
+use Rattle.expull_append.specs.Append.{takeBlock, ready, moved, filled, andThen, appended}
 use Rattle.history_lanes.specs.Lane.{sizeOn, wideOn, fullContent, content, Links, Below, Paged, Tip, Clear}
-use Rattle.history_lanes.specs.Lane.{TipApart, TipClear}
-use Rattle.history_lanes.specs.Lane.{usedEnd, Lane, After}
+use Rattle.history_lanes.specs.Lane.{TipApart, TipClear, usedEnd, Lane, After}
 use Rattle.history_lanes.proofs.Blocks.{apart-within, apart-sym, clear-within, clear-above, below-up}
 use Rattle.history_lanes.proofs.Blocks.{full-kept, link-to-kept, links-kept}
 
@@ -63,10 +62,13 @@ moves-join u u′ h h′ h″ g (inr x) (inl y) = inr (le-trans x (y .0))
 moves-join u u′ h h′ h″ g x (inr y) = inr (le-trans g y)
 
 -- what a piece of an append does, besides the lane it leaves
-record Step (m : List ℕ) (a : Arena) (h : Header) (ks bs m′ : List ℕ) (a′ : Arena) (h′ : Header) (ks′ : List ℕ) : Type 0 where
+record Step (m : List ℕ) (a : Arena) (h : Header) (ks bs m′ : List ℕ) (a′ : Arena) (h′ : Header)
+    (ks′ : List ℕ) : Type 0 where
   bytes : content m′ ks′ (h′ .remaining) ≡ content m ks (h .remaining) ++ bs
-  rest : (q n : ℕ) → q + n ≤ usedEnd a → Apart (h .tail) (h .remaining + linkSize) q n → readSpan q n m′ ≡ readSpan q n m
-  rest-on : (q n : ℕ) → q + n ≤ usedEnd a → Apart (h .tail) (h .remaining + linkSize) q n → Apart (h′ .tail) (h′ .remaining + linkSize) q n
+  rest : (q n : ℕ) → q + n ≤ usedEnd a → Apart (h .tail) (h .remaining + linkSize) q n
+      → readSpan q n m′ ≡ readSpan q n m
+  rest-on : (q n : ℕ) → q + n ≤ usedEnd a → Apart (h .tail) (h .remaining + linkSize) q n
+      → Apart (h′ .tail) (h′ .remaining + linkSize) q n
   outside : (q n : ℕ) → Clear q n ks′ → readSpan q n m′ ≡ readSpan q n m
   unfilled : (q n : ℕ) → h′ .tail ≤ q → q + n ≤ h′ .tail + (h′ .remaining + linkSize) → readSpan q n m′ ≡ readSpan q n m
   above : (q n : ℕ) → usedEnd a′ ≤ q → readSpan q n m′ ≡ readSpan q n m
@@ -101,7 +103,8 @@ step-none m a h ks = record {
   len = refl;
 }
 
-step-join : (m : List ℕ) (a : Arena) (h : Header) (ks bs m′ : List ℕ) (a′ : Arena) (h′ : Header) (ks′ cs m″ : List ℕ) (a″ : Arena) (h″ : Header) (ks″ : List ℕ)
+step-join : (m : List ℕ) (a : Arena) (h : Header) (ks bs m′ : List ℕ) (a′ : Arena) (h′ : Header) (ks′ cs m″ : List ℕ)
+    (a″ : Arena) (h″ : Header) (ks″ : List ℕ)
     → Step m a h ks bs m′ a′ h′ ks′ → Step m′ a′ h′ ks′ cs m″ a″ h″ ks″ → Step m a h ks (bs ++ cs) m″ a″ h″ ks″
 step-join m a h ks bs m′ a′ h′ ks′ cs m″ a″ h″ ks″ A B = record {
   bytes = B .bytes ∙ ap (λ (l : List ℕ). l ++ cs) (A .bytes) ∙ append-assoc (content m ks (h .remaining)) bs cs;
@@ -129,7 +132,8 @@ step-join m a h ks bs m′ a′ h′ ks′ cs m″ a″ h″ ks″ A B = record 
 
 -- ---- bytes into the newest block
 
-module _ (cs m : List ℕ) (a : Arena) (h : Header) (x : ℕ) (ks : List ℕ) (L : Loose m a h (x ∷ ks)) (f : length cs ≤ h .remaining) where
+module _ (cs m : List ℕ) (a : Arena) (h : Header) (x : ℕ) (ks : List ℕ) (L : Loose m a h (x ∷ ks))
+    (f : length cs ≤ h .remaining) where
   fill-clear : Clear (h .tail) (length cs) ks
   fill-clear =
       clear-within x (wideOn ks) (h .tail) (length cs) ks (omega (arith, L .tip)) (omega (arith, L .tip))
@@ -138,7 +142,10 @@ module _ (cs m : List ℕ) (a : Arena) (h : Header) (x : ℕ) (ks : List ℕ) (L
   fill-lane : Loose (overwrite (h .tail) cs m) a (moved (length cs) h) (x ∷ ks)
   fill-lane = record {
     number = L .number;
-    links = (link-to-kept (h .tail) cs m ks x fill-clear (L .links .0), links-kept (h .tail) cs m ks fill-clear (L .links .1));
+    links = (
+      link-to-kept (h .tail) cs m ks x fill-clear (L .links .0),
+      links-kept (h .tail) cs m ks fill-clear (L .links .1),
+    );
     below = L .below;
     paged = L .paged;
     tip = (L .tip .0, omega (arith, L .tip), omega (arith, L .tip), L .tip .3);
@@ -146,7 +153,8 @@ module _ (cs m : List ℕ) (a : Arena) (h : Header) (x : ℕ) (ks : List ℕ) (L
     short = rw length-overwrite (L .short);
   }
 
-  fill-bytes : content (overwrite (h .tail) cs m) (x ∷ ks) (h .remaining - length cs) ≡ content m (x ∷ ks) (h .remaining) ++ cs
+  fill-bytes : content (overwrite (h .tail) cs m) (x ∷ ks) (h .remaining - length cs)
+      ≡ content m (x ∷ ks) (h .remaining) ++ cs
   fill-bytes =
       let i : usedEnd a ≤ length m = standing-facts a (length m) (L .stands) .in-memory in
       let e : h .tail ≡ x + (sizeOn ks - h .remaining) = omega (arith, L .tip) in
@@ -163,11 +171,15 @@ module _ (cs m : List ℕ) (a : Arena) (h : Header) (x : ℕ) (ks : List ℕ) (L
   fill-step = record {
     bytes = fill-bytes;
     rest = λ q n u t. read-apart q n (h .tail) cs m
-        (apart-within (h .tail) (h .remaining + linkSize) q n (h .tail) (length cs) q n (le-refl (h .tail)) (omega arith) (le-refl q) (le-refl (q + n)) t);
-    rest-on = λ q n u t. apart-within (h .tail) (h .remaining + linkSize) q n (h .tail + length cs) (h .remaining - length cs + linkSize) q n
+        (apart-within (h .tail) (h .remaining + linkSize) q n (h .tail) (length cs) q n (le-refl (h .tail))
+        (omega arith) (le-refl q) (le-refl (q + n)) t);
+    rest-on =
+        λ q n u t. apart-within (h .tail) (h .remaining + linkSize) q n (h .tail + length cs)
+        (h .remaining - length cs + linkSize) q n
         (omega arith) (omega arith) (le-refl q) (le-refl (q + n)) t;
     outside = λ q n c. read-apart q n (h .tail) cs m
-        (apart-within x (wideOn ks) q n (h .tail) (length cs) q n (omega (arith, L .tip)) (omega (arith, L .tip)) (le-refl q) (le-refl (q + n))
+        (apart-within x (wideOn ks) q n (h .tail) (length cs) q n (omega (arith, L .tip)) (omega (arith, L .tip))
+        (le-refl q) (le-refl (q + n))
         (apart-sym q n x (wideOn ks) (c .0)));
     unfilled = λ q n l u. read-apart q n (h .tail) cs m (inl l);
     above = λ q n l. read-apart q n (h .tail) cs m (inl (omega (arith, L .tip, L .below .0)));
@@ -207,7 +219,8 @@ header-on ks v h e =
     go [] e = rw (eq-eqb (h .number) freshNumber e)
     go (x ∷ ks) e = rw (ne-eqb (h .number) freshNumber (λ z. omega arith))
 
-memory-on : (ks : List ℕ) (v : ℕ) (h : Header) (m : List ℕ) → h .number ≡ length ks + freshNumber → linked v h m ≡ memoryOn ks v h m
+memory-on : (ks : List ℕ) (v : ℕ) (h : Header) (m : List ℕ) → h .number ≡ length ks + freshNumber
+    → linked v h m ≡ memoryOn ks v h m
 unfolding linked
 memory-on [] v h m e = rw (eq-eqb (h .number) freshNumber e)
 memory-on (x ∷ ks) v h m e = rw (ne-eqb (h .number) freshNumber (λ z. omega arith))
@@ -220,7 +233,8 @@ record Spot (m : List ℕ) (a : Arena) (ks : List ℕ) (v : ℕ) (a′ : Arena) 
   on-page : placeOf (a′ .size) v + wideOn ks ≤ a′ .size
   stands : standing a′ (length m) ≡ true
 
-take-lane : (m : List ℕ) (a : Arena) (h : Header) (ks : List ℕ) (v : ℕ) (a′ : Arena) → Loose m a h ks → h .remaining ≡ 0 → Spot m a ks v a′
+take-lane : (m : List ℕ) (a : Arena) (h : Header) (ks : List ℕ) (v : ℕ) (a′ : Arena) → Loose m a h ks → h .remaining ≡ 0
+    → Spot m a ks v a′
     → Loose (memoryOn ks v h m) a′ (headerOn ks v h) (v ∷ ks)
 take-lane m a h [] v a′ L z S = record {
   number = refl;
@@ -241,16 +255,28 @@ take-lane m a h (x ∷ ks) v a′ L z S =
       number = omega arith;
       links = (
         rw e (number-back linkSize (x + sizeOn ks) v m (omega (arith, L .below .0)) (omega (arith, S .end, L .short))),
-        (link-to-kept (h .tail) (leBytes linkSize v) m ks x c (L .links .0), links-kept (h .tail) (leBytes linkSize v) m ks c (L .links .1)),
+        (
+          link-to-kept (h .tail) (leBytes linkSize v) m ks x c (L .links .0),
+          links-kept (h .tail) (leBytes linkSize v) m ks c (L .links .1),
+        ),
       );
-      below = (omega (arith, S .end), below-up (usedEnd a) (usedEnd a′) (x ∷ ks) (omega (arith, S .above, S .end)) (L .below));
+      below = (
+        omega (arith, S .end),
+        below-up (usedEnd a) (usedEnd a′) (x ∷ ks) (omega (arith, S .above, S .end)) (L .below),
+      );
       paged = (S .on-page, subst (λ (s : ℕ). Paged s (x ∷ ks)) (sym (S .size)) (L .paged));
-      tip = (L .tip .0, le-refl (sizeOn (x ∷ ks)), refl, (below-up (usedEnd a) v (x ∷ ks) (S .above) (L .below), L .tip .3));
+      tip = (
+        L .tip .0,
+        le-refl (sizeOn (x ∷ ks)),
+        refl,
+        (below-up (usedEnd a) v (x ∷ ks) (S .above) (L .below), L .tip .3),
+      );
       stands = rw length-overwrite (S .stands);
       short = rw length-overwrite (L .short);
     }
 
-take-step : (m : List ℕ) (a : Arena) (h : Header) (ks : List ℕ) (v : ℕ) (a′ : Arena) → Loose m a h ks → h .remaining ≡ 0 → Spot m a ks v a′
+take-step : (m : List ℕ) (a : Arena) (h : Header) (ks : List ℕ) (v : ℕ) (a′ : Arena) → Loose m a h ks → h .remaining ≡ 0
+    → Spot m a ks v a′
     → Step m a h ks [] (memoryOn ks v h m) a′ (headerOn ks v h) (v ∷ ks)
 take-step m a h [] v a′ L z S = record {
   bytes = rw (sub-self, span-none);
@@ -290,7 +316,8 @@ take-step m a h (x ∷ ks) v a′ L z S =
           (le-refl (h .tail)) (omega arith) (le-refl q) (le-refl (q + n)) t);
       rest-on = λ q n u t. inr (le-trans u (S .above));
       outside = λ q n c. read-apart q n (h .tail) (leBytes linkSize v) m
-          (apart-within x (wideOn ks) q n (h .tail) (length (leBytes linkSize v)) q n (omega arith) (omega arith) (le-refl q) (le-refl (q + n))
+          (apart-within x (wideOn ks) q n (h .tail) (length (leBytes linkSize v)) q n (omega arith) (omega arith)
+          (le-refl q) (le-refl (q + n))
           (apart-sym q n x (wideOn ks) (c .1 .0)));
       unfilled = λ q n o u.
           read-apart q n (h .tail) (leBytes linkSize v) m (inl (omega (arith, S .above, L .below .0)));
@@ -308,10 +335,13 @@ take-step m a h (x ∷ ks) v a′ L z S =
       len = length-overwrite (h .tail) (leBytes linkSize v) m;
     }
 
-spot-at : (m : List ℕ) (a : Arena) (h : Header) (ks : List ℕ) (v : ℕ) (a′ : Arena) → Loose m a h ks → roomFor a (length m) (nextWide h) ≡ At v a′
+spot-at : (m : List ℕ) (a : Arena) (h : Header) (ks : List ℕ) (v : ℕ) (a′ : Arena) → Loose m a h ks
+    → roomFor a (length m) (nextWide h) ≡ At v a′
     → Spot m a ks v a′
 spot-at m a h ks v a′ L e =
-    let w : nextWide h ≡ wideOn ks = ap (λ (b : ℕ). blockSize b + linkSize) (let p : h .number + 1 ≡ length ks + 3 = omega (arith, L .number) in p) in
+    let w : nextWide h ≡ wideOn ks =
+    ap (λ (b : ℕ). blockSize b + linkSize) (let p : h .number + 1 ≡ length ks + 3 = omega (arith, L .number) in
+    p) in
     let f = ap (roomFor a (length m)) (sym w) ∙ e in
     let R : Room a (length m) (wideOn ks) v a′ = room-facts a (length m) (wideOn ks) v a′ (omega arith) (L .stands) f in
     record {
@@ -319,7 +349,11 @@ spot-at m a h ks v a′ L e =
       end = R .end;
       size = room-size a (length m) (wideOn ks) v a′ f;
       on-page =
-          rw (R .page-on, place-of (a′ .size) (a′ .page) (a′ .used - wideOn ks) (omega (arith, R .wide, R .after .in-page)))
+          rw (
+            R .page-on,
+            place-of (a′ .size) (a′ .page) (a′ .used - wideOn ks)
+                (omega (arith, R .wide, R .after .in-page)),
+          )
           (omega (arith, R .wide, R .after .in-page));
       stands = standing-made a′ (length m) (R .after);
     }
@@ -338,7 +372,8 @@ StepOf w ks bs w′ ks′ = Step (w .memory) (w .arena) (w .header) ks bs (w′ 
 
 take-with : (w : Writing) (ks : List ℕ) (v : ℕ) (a′ : Arena) → LooseOf w ks → w .header .remaining ≡ 0
     → roomFor (w .arena) (length (w .memory)) (nextWide (w .header)) ≡ At v a′
-    → LooseOf (withBlock v a′ w) (v ∷ ks) × StepOf w ks [] (withBlock v a′ w) (v ∷ ks) × (0 < headerWith v (w .header) .remaining)
+    → LooseOf (withBlock v a′ w) (v ∷ ks) × StepOf w ks [] (withBlock v a′ w) (v ∷ ks)
+    × (0 < headerWith v (w .header) .remaining)
 take-with w ks v a′ L z e =
     let S = spot-at (w .memory) (w .arena) (w .header) ks v a′ L e in
     let p : withBlock v a′ w ≡ writing (memoryOn ks v (w .header) (w .memory)) a′ (headerOn ks v (w .header)) =
@@ -364,7 +399,8 @@ ready-open : (w : Writing) (ks : List ℕ) → LooseOf w ks → (v : Writing) �
 unfolding ready
 ready-open w ks L v e = go (eqb (w .header .remaining) 0) refl e
   where
-    taken : (r : Allocated) → roomFor (w .arena) (length (w .memory)) (nextWide (w .header)) ≡ r → w .header .remaining ≡ 0
+    taken : (r : Allocated) → roomFor (w .arena) (length (w .memory)) (nextWide (w .header)) ≡ r
+        → w .header .remaining ≡ 0
         → onRoom r w ≡ some v → Open w ks v
     taken (At at a′) p z e =
         let T = take-with w ks at a′ L z p in
@@ -384,8 +420,11 @@ ready-open w ks L v e = go (eqb (w .header .remaining) 0) refl e
     }
 
     go : (t : Bool) → eqb (w .header .remaining) 0 ≡ t → cond t (takeBlock w) (some w) ≡ some v → Open w ks v
-    go true p e = taken (roomFor (w .arena) (length (w .memory)) (nextWide (w .header))) refl (eqb-true (w .header .remaining) 0 p) e
-    go false p e = subst (λ (v : Writing). Open w ks v) (same-some w v e) (stays ks L (eqb-false (w .header .remaining) 0 p))
+    go true p e =
+        taken (roomFor (w .arena) (length (w .memory)) (nextWide (w .header))) refl
+        (eqb-true (w .header .remaining) 0 p) e
+    go false p e =
+        subst (λ (v : Writing). Open w ks v) (same-some w v e) (stays ks L (eqb-false (w .header .remaining) 0 p))
 
 byte : (b : ℕ) (w : Writing) (ks : List ℕ) → LaneOf w ks → (v : Writing) → ready w ≡ some v
     → (ks′ : List ℕ) × LaneOf (filled (b ∷ []) v) ks′ × StepOf w ks (b ∷ []) (filled (b ∷ []) v) ks′
@@ -406,8 +445,10 @@ byte b w ks L v e =
         stands = F .stands;
         short = F .short;
       },
-      step-join (w .memory) (w .arena) (w .header) ks [] (v .memory) (v .arena) (v .header) (O .newest ∷ O .others) (b ∷ [])
-          (overwrite (v .header .tail) (b ∷ []) (v .memory)) (v .arena) (moved 1 (v .header)) (O .newest ∷ O .others) (O .step) S,
+      step-join (w .memory) (w .arena) (w .header) ks [] (v .memory) (v .arena) (v .header) (O .newest ∷ O .others)
+          (b ∷ [])
+          (overwrite (v .header .tail) (b ∷ []) (v .memory)) (v .arena) (moved 1 (v .header)) (O .newest ∷ O .others)
+          (O .step) S,
     )
 
 -- ---- any number of bytes
@@ -420,7 +461,8 @@ run [] w ks L w′ e =
     (ks, L, step-none (w .memory) (w .arena) (w .header) ks)
 run (b ∷ bs) w ks L w′ e = go (λ v ks′ K f. run bs v ks′ K w′ f) (ready w) refl e
   where
-    go : ((v : Writing) (ks′ : List ℕ) → LaneOf v ks′ → appended bs v ≡ some w′ → (ks″ : List ℕ) × LaneOf w′ ks″ × StepOf v ks′ bs w′ ks″)
+    go : ((v : Writing) (ks′ : List ℕ) → LaneOf v ks′ → appended bs v ≡ some w′
+        → (ks″ : List ℕ) × LaneOf w′ ks″ × StepOf v ks′ bs w′ ks″)
         → (o : Option Writing) → ready w ≡ o → andThen o (λ v. appended bs (filled (b ∷ []) v)) ≡ some w′
         → (ks″ : List ℕ) × LaneOf w′ ks″ × StepOf w ks (b ∷ bs) w′ ks″
     go on none p e = let c : _≡_ {A = ℕ} 0 1 = cc in absurd (omega arith)
@@ -435,20 +477,34 @@ run (b ∷ bs) w ks L w′ e = go (λ v ks′ K f. run bs v ks′ K w′ f) (rea
         )
 
 -- what is apart from the newest block is apart from what remains of it
-rest-apart : (m : List ℕ) (a : Arena) (h : Header) (ks : List ℕ) → Lane m a h ks → (q n : ℕ) → q + n ≤ usedEnd a → TipApart q n ks
+rest-apart : (m : List ℕ) (a : Arena) (h : Header) (ks : List ℕ) → Lane m a h ks → (q n : ℕ) → q + n ≤ usedEnd a
+    → TipApart q n ks
     → Apart (h .tail) (h .remaining + linkSize) q n
-rest-apart m a h [] L q n u t = inr (omega (arith, L .tip, L .short, standing-facts a (length m) (L .stands) .in-memory))
+rest-apart m a h [] L q n u t =
+    inr (omega (arith, L .tip, L .short, standing-facts a (length m) (L .stands) .in-memory))
 rest-apart m a h (x ∷ ks) L q n u t =
-    apart-within x (wideOn ks) q n (h .tail) (h .remaining + linkSize) q n (omega (arith, L .tip)) (omega (arith, L .tip)) (le-refl q) (le-refl (q + n)) t
+    apart-within x (wideOn ks) q n (h .tail) (h .remaining + linkSize) q n (omega (arith, L .tip))
+    (omega (arith, L .tip)) (le-refl q) (le-refl (q + n)) t
 
 -- ---- the theorems
 
 -- a list without blocks is a lane
 pub lane-fresh : (m : List ℕ) (a : Arena) → standing a (length m) ≡ true → length m ≤ arenaLimit → Lane m a fresh []
-lane-fresh m a s h = record { number = refl; links = tt; below = tt; paged = tt; tip = (refl, refl, refl); begun = tt; stands = s; short = h }
+lane-fresh m a s h =
+    record {
+      number = refl;
+      links = tt;
+      below = tt;
+      paged = tt;
+      tip = (refl, refl, refl);
+      begun = tt;
+      stands = s;
+      short = h;
+    }
 
 -- an append that fits leaves a lane, and what `After` says
-pub lane-appended : (m : List ℕ) (a : Arena) (h : Header) (ks bs : List ℕ) (w : Writing) → Lane m a h ks → appended bs (writing m a h) ≡ some w
+pub lane-appended : (m : List ℕ) (a : Arena) (h : Header) (ks bs : List ℕ) (w : Writing) → Lane m a h ks
+    → appended bs (writing m a h) ≡ some w
     → (ks′ : List ℕ) × After m a h ks bs (w .memory) (w .arena) (w .header) ks′
 lane-appended m a h ks bs w L e =
     let R = run bs (writing m a h) ks L w e in

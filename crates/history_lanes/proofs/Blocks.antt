@@ -1,4 +1,5 @@
--- Laws of blocks: sizes, spans that share no place, what a write leaves of blocks that it doesn't touch. Assumes nothing.
+-- Laws of blocks: sizes, spans that share no place, what a write leaves of blocks that it doesn't touch. Assumes
+-- nothing.
 use Prim.Native.Nat.{ℕ, _+_, _^_, _≤_, _<_}
 use mathlib.Core.Path.{_≡_, refl}
 use mathlib.Core.Logic.{inl, inr}
@@ -12,7 +13,7 @@ use Rattle.spans.specs.Span.{overwrite, Apart}
 use Rattle.spans.proofs.Laws.{read-apart}
 use Rattle.memory_arena.specs.Address.{pageOf, placeOf, addressOf}
 use Rattle.memory_arena.proofs.Laws.{split, place-of}
-use Rattle.expull.specs.Header.{blockSize}
+use Rattle.expull_header.specs.Header.{blockSize}
 use Rattle.history_lanes.specs.Lane.{sizeOn, wideOn, fullContent, LinkTo, Links, Below, Clear}
 
 -- ---- sizes
@@ -27,7 +28,8 @@ size-full b h = rw (min-eq-right h)
 
 -- ---- spans
 
-pub apart-within : (p n q k p′ n′ q′ k′ : ℕ) → p ≤ p′ → p′ + n′ ≤ p + n → q ≤ q′ → q′ + k′ ≤ q + k → Apart p n q k → Apart p′ n′ q′ k′
+pub apart-within : (p n q k p′ n′ q′ k′ : ℕ) → p ≤ p′ → p′ + n′ ≤ p + n → q ≤ q′ → q′ + k′ ≤ q + k → Apart p n q k
+    → Apart p′ n′ q′ k′
 apart-within p n q k p′ n′ q′ k′ a b c d (inl h) = inl (omega arith)
 apart-within p n q k p′ n′ q′ k′ a b c d (inr h) = inr (omega arith)
 
@@ -37,8 +39,10 @@ apart-sym p n q k (inr h) = inl h
 
 pub clear-within : (p n p′ n′ : ℕ) (ks : List ℕ) → p ≤ p′ → p′ + n′ ≤ p + n → Clear p n ks → Clear p′ n′ ks
 clear-within p n p′ n′ [] a b c = tt
-clear-within p n p′ n′ (x ∷ ks) a b c =
-    (apart-within p n x (wideOn ks) p′ n′ x (wideOn ks) a b (le-refl x) (le-refl (x + wideOn ks)) (c .0), clear-within p n p′ n′ ks a b (c .1))
+clear-within p n p′ n′ (x ∷ ks) a b c = (
+  apart-within p n x (wideOn ks) p′ n′ x (wideOn ks) a b (le-refl x) (le-refl (x + wideOn ks)) (c .0),
+  clear-within p n p′ n′ ks a b (c .1),
+)
 
 pub clear-above : (u p n : ℕ) (ks : List ℕ) → u ≤ p → Below u ks → Clear p n ks
 clear-above u p n [] h b = tt
@@ -56,20 +60,24 @@ placed-within s x w k n z h p =
 
 -- ---- a write that shares no place with blocks
 
-pub full-kept : (p : ℕ) (cs m ks : List ℕ) → Clear p (length cs) ks → fullContent (overwrite p cs m) ks ≡ fullContent m ks
+pub full-kept : (p : ℕ) (cs m ks : List ℕ) → Clear p (length cs) ks
+    → fullContent (overwrite p cs m) ks ≡ fullContent m ks
 full-kept p cs m [] c = refl
 full-kept p cs m (x ∷ ks) c =
     rw (
       full-kept p cs m ks (c .1),
       read-apart x (sizeOn ks) p cs m
-          (apart-within p (length cs) x (wideOn ks) p (length cs) x (sizeOn ks) (le-refl p) (le-refl (p + length cs)) (le-refl x) (omega arith) (c .0)),
+          (apart-within p (length cs) x (wideOn ks) p (length cs) x (sizeOn ks) (le-refl p) (le-refl (p + length cs))
+          (le-refl x) (omega arith) (c .0)),
     )
 
-pub link-to-kept : (p : ℕ) (cs m ks : List ℕ) (y : ℕ) → Clear p (length cs) ks → LinkTo m ks y → LinkTo (overwrite p cs m) ks y
+pub link-to-kept : (p : ℕ) (cs m ks : List ℕ) (y : ℕ) → Clear p (length cs) ks → LinkTo m ks y
+    → LinkTo (overwrite p cs m) ks y
 link-to-kept p cs m [] y c l = tt
 link-to-kept p cs m (x ∷ ks) y c l =
     rw (read-apart (x + sizeOn ks) linkSize p cs m
-    (apart-within p (length cs) x (wideOn ks) p (length cs) (x + sizeOn ks) linkSize (le-refl p) (le-refl (p + length cs)) (omega arith) (omega arith) (c .0))) l
+    (apart-within p (length cs) x (wideOn ks) p (length cs) (x + sizeOn ks) linkSize (le-refl p)
+    (le-refl (p + length cs)) (omega arith) (omega arith) (c .0))) l
 
 pub links-kept : (p : ℕ) (cs m ks : List ℕ) → Clear p (length cs) ks → Links m ks → Links (overwrite p cs m) ks
 links-kept p cs m [] c l = tt

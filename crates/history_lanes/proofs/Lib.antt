@@ -1,5 +1,5 @@
--- `Blocks`: laws of block lists. `Append`: what an append does to its own lane. `Moved`: to another. `Readings`: what the calls tell of a lane.
--- `Room`: what its blocks take. `Plan`: the dry run decides whether an append fits.
+-- `Blocks`: laws of block lists. `Append`: what an append does to its own lane. `Moved`: to another. `Readings`: what
+-- the calls tell of a lane. `Room`: what its blocks take. `Plan`: the dry run decides whether an append fits.
 pub mod Blocks
 pub mod Append
 pub mod Moved

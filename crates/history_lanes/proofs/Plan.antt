@@ -1,4 +1,5 @@
--- The dry run of an append, from the numbers alone, comes to the arena's state that the append leaves, and to none where it does. Assumes nothing.
+-- The dry run of an append, from the numbers alone, comes to the arena's state that the append leaves, and to none
+-- where it does. Assumes nothing.
 use Prim.Native.Nat.{ℕ, zero, suc, _+_, _-_, _≤_}
 use mathlib.Core.Path.{_≡_, refl, sym, _∙_}
 use mathlib.Core.Bool.{Bool, true, false, cond}
@@ -17,10 +18,11 @@ use Rattle.memory_arena.specs.declared.Arena.{Arena}
 use Rattle.memory_arena.specs.declared.Allocated.{Allocated}
 use Rattle.memory_arena.specs.declared.Allocated.the-variants.{At, NoRoom, Refused}
 use Rattle.memory_arena.specs.Pages.{roomFor}
-use Rattle.expull.specs.declared.Header.{Header}
-use Rattle.expull.specs.Header.{blockSize}
-use Rattle.expull.proofs.Laws.Header.{size-pos}
-use Rattle.expull.specs.Append.{Writing, writing, nextWide, linked, headerWith, withBlock, onRoom, takeBlock, ready, filled, andThen, appended, onRoomDry, planned, planOf}
+use Rattle.expull_header.specs.declared.Header.{Header}
+use Rattle.expull_header.specs.Header.{blockSize}
+use Rattle.expull_header.proofs.Laws.{size-pos}
+use Rattle.expull_append.specs.Append.{Writing, writing, nextWide, linked, headerWith, withBlock, onRoom, takeBlock}
+use Rattle.expull_append.specs.Append.{ready, filled, andThen, appended, onRoomDry, planned, planOf}
 use Rattle.history_lanes.specs.Lane.{arenaOf}
 
 -- ---- as many turns as there are bytes are enough
@@ -41,16 +43,20 @@ turns-same (suc t) (suc t′) len a b n h k =
     go : (s : Bool) → eqb n 0 ≡ s
         → ((a′ : Arena) → n - blockSize (b + 1) ≤ t → n - blockSize (b + 1) ≤ t′
         → planned t len a′ (b + 1) (n - blockSize (b + 1)) ≡ planned t′ len a′ (b + 1) (n - blockSize (b + 1)))
-        → cond s (some a) (onRoomDry (roomFor a len (blockSize (b + 1) + linkSize)) (λ a′. planned t len a′ (b + 1) (n - blockSize (b + 1))))
-        ≡ cond s (some a) (onRoomDry (roomFor a len (blockSize (b + 1) + linkSize)) (λ a′. planned t′ len a′ (b + 1) (n - blockSize (b + 1))))
+        → cond s (some a) (onRoomDry (roomFor a len (blockSize (b + 1) + linkSize))
+        (λ a′. planned t len a′ (b + 1) (n - blockSize (b + 1))))
+        ≡ cond s (some a) (onRoomDry (roomFor a len (blockSize (b + 1) + linkSize))
+        (λ a′. planned t′ len a′ (b + 1) (n - blockSize (b + 1))))
     go true e f = refl
     go false e f =
         dry-same (roomFor a len (blockSize (b + 1) + linkSize)) (λ a′. planned t len a′ (b + 1) (n - blockSize (b + 1)))
-        (λ a′. planned t′ len a′ (b + 1) (n - blockSize (b + 1))) (λ a′. f a′ (omega (arith, size-pos (b + 1))) (omega (arith, size-pos (b + 1))))
+        (λ a′. planned t′ len a′ (b + 1) (n - blockSize (b + 1)))
+        (λ a′. f a′ (omega (arith, size-pos (b + 1))) (omega (arith, size-pos (b + 1))))
 
 -- a turn with a byte waiting
 turn-takes : (t len : ℕ) (a : Arena) (b n : ℕ) → planned (suc t) len a b (suc n)
-    ≡ onRoomDry (roomFor a len (blockSize (b + 1) + linkSize)) (λ a′. planned t len a′ (b + 1) (suc n - blockSize (b + 1)))
+    ≡ onRoomDry (roomFor a len (blockSize (b + 1) + linkSize))
+    (λ a′. planned t len a′ (b + 1) (suc n - blockSize (b + 1)))
 unfolding planned
 turn-takes t len a b n = cond-false _ _ _ (ne-eqb (suc n) 0 (λ z. omega arith))
 
@@ -64,7 +70,8 @@ length-linked v h m = go (eqb (h .number) freshNumber)
     go true = refl
     go false = length-overwrite (h .tail) (leBytes linkSize v) m
 
-plan-run : (bs : List ℕ) (w : Writing) → planOf (length (w .memory)) (w .arena) (w .header) (length bs) ≡ arenaOf (appended bs w)
+plan-run : (bs : List ℕ) (w : Writing)
+    → planOf (length (w .memory)) (w .arena) (w .header) (length bs) ≡ arenaOf (appended bs w)
 unfolding planOf appended ready filled headerWith
 plan-run [] w = let z : 0 - w .header .remaining ≡ 0 = omega arith in rw z
 plan-run (b ∷ bs) w = go (eqb (w .header .remaining) 0) refl (plan-run bs)
@@ -74,11 +81,14 @@ plan-run (b ∷ bs) w = go (eqb (w .header .remaining) 0) refl (plan-run bs)
 
     goal : Option Writing → Type 0
     goal o =
-        planned (suc n - w .header .remaining) (length (w .memory)) (w .arena) (w .header .number) (suc n - w .header .remaining)
+        planned (suc n - w .header .remaining) (length (w .memory)) (w .arena) (w .header .number)
+        (suc n - w .header .remaining)
         ≡ arenaOf (andThen o (λ v. appended bs (filled (b ∷ []) v)))
 
-    taken : ((v : Writing) → planOf (length (v .memory)) (v .arena) (v .header) n ≡ arenaOf (appended bs v)) → (r : Allocated)
-        → onRoomDry r (λ a′. planned n (length (w .memory)) a′ (w .header .number + 1) (suc n - blockSize (w .header .number + 1)))
+    taken : ((v : Writing) → planOf (length (v .memory)) (v .arena) (v .header) n ≡ arenaOf (appended bs v))
+        → (r : Allocated)
+        → onRoomDry r (λ a′. planned n (length (w .memory)) a′ (w .header .number + 1)
+        (suc n - blockSize (w .header .number + 1)))
         ≡ arenaOf (andThen (onRoom r w) (λ v. appended bs (filled (b ∷ []) v)))
     taken on (At v a′) =
         let s : ℕ = blockSize (w .header .number + 1) in
@@ -93,7 +103,8 @@ plan-run (b ∷ bs) w = go (eqb (w .header .remaining) 0) refl (plan-run bs)
     taken on (Refused k) = refl
 
     go : (t : Bool) → eqb (w .header .remaining) 0 ≡ t
-        → ((v : Writing) → planOf (length (v .memory)) (v .arena) (v .header) n ≡ arenaOf (appended bs v)) → goal (cond t (takeBlock w) (some w))
+        → ((v : Writing) → planOf (length (v .memory)) (v .arena) (v .header) n ≡ arenaOf (appended bs v))
+        → goal (cond t (takeBlock w) (some w))
     go true p on =
         let z : w .header .remaining ≡ 0 = eqb-true (w .header .remaining) 0 p in
         let e : suc n - w .header .remaining ≡ suc n = omega arith in
@@ -103,10 +114,12 @@ plan-run (b ∷ bs) w = go (eqb (w .header .remaining) 0) refl (plan-run bs)
     go false p on =
         let z : w .header .remaining ≡ 0 → ⊥ = eqb-false (w .header .remaining) 0 p in
         let e : suc n - w .header .remaining ≡ n - (w .header .remaining - 1) = omega arith in
-        let l : length (overwrite (w .header .tail) (b ∷ []) (w .memory)) ≡ length (w .memory) = length-overwrite (w .header .tail) (b ∷ []) (w .memory) in
+        let l : length (overwrite (w .header .tail) (b ∷ []) (w .memory)) ≡ length (w .memory) =
+        length-overwrite (w .header .tail) (b ∷ []) (w .memory) in
         (λ i. planned (e i) (sym l i) (w .arena) (w .header .number) (e i)) ∙ on (filled (b ∷ []) w)
 
 -- ---- the theorems
 
-pub lane-plan : (m : List ℕ) (a : Arena) (h : Header) (bs : List ℕ) → planOf (length m) a h (length bs) ≡ arenaOf (appended bs (writing m a h))
+pub lane-plan : (m : List ℕ) (a : Arena) (h : Header) (bs : List ℕ)
+    → planOf (length m) a h (length bs) ≡ arenaOf (appended bs (writing m a h))
 lane-plan m a h bs = plan-run bs (writing m a h)

@@ -1,4 +1,5 @@
--- What the calls tell of a lane: its header isn't damage, its blocks are good spans, its bytes, its length, each of its blocks. Assumes nothing.
+-- What the calls tell of a lane: its header isn't damage, its blocks are good spans, its bytes, its length, each of its
+-- blocks. Assumes nothing.
 use Prim.Native.Nat.{ℕ, zero, suc, _+_, _-_, _*_, _^_, _≤_, _<_}
 use mathlib.Core.Path.{_≡_, refl, sym, ap, _∙_}
 use mathlib.Core.Bool.{Bool, true, false}
@@ -17,11 +18,11 @@ use Rattle.memory_arena.specs.declared.Arena.{Arena}
 use Rattle.memory_arena.specs.Address.{placeOf}
 use Rattle.memory_arena.specs.Pages.{standing, goodSpan}
 use Rattle.memory_arena.proofs.Laws.{standing-facts, good-below, good-shorter, good-in}
-use Rattle.expull.specs.declared.Header.{Header}
-use Rattle.expull.specs.declared.Block.the-variants.{NoBlock}
-use Rattle.expull.specs.Header.{blockSize, soundHeader, blockCount, fullBytes, laneLength}
-use Rattle.expull.specs.Append.{goodTail}
-use Rattle.expull.specs.Blocks.{blockPlace, goodBlocks, fullBlocks, laneBytes, blockLength, blockOf}
+use Rattle.expull_header.specs.declared.Header.{Header}
+use Rattle.expull_walk.specs.declared.Block.the-variants.{NoBlock}
+use Rattle.expull_header.specs.Header.{blockSize, soundHeader, blockCount, fullBytes, laneLength}
+use Rattle.expull_append.specs.Append.{goodTail}
+use Rattle.expull_walk.specs.Blocks.{blockPlace, goodBlocks, fullBlocks, laneBytes, blockLength, blockOf}
 use Rattle.history_lanes.specs.Lane.{sizeOn, wideOn, fullContent, content, Links, Below, Stack, Paged, oldest}
 use Rattle.history_lanes.specs.Lane.{usedEnd, Lane, HeaderFits, FoundBlock, pieces}
 use Rattle.history_lanes.proofs.Blocks.{size-top, size-full, placed-within}
@@ -29,7 +30,8 @@ use Rattle.history_lanes.proofs.Blocks.{size-top, size-full, placed-wit
 -- ---- the header
 
 -- blocks from number 15 on all take the same, and share no place: so there are not many
-stack-few : (u : ℕ) (ks : List ℕ) → Below u ks → Stack ks → length ks * (2 ^ sizeTop + linkSize) ≤ u + 12 * (2 ^ sizeTop + linkSize)
+stack-few : (u : ℕ) (ks : List ℕ) → Below u ks → Stack ks
+    → length ks * (2 ^ sizeTop + linkSize) ≤ u + 12 * (2 ^ sizeTop + linkSize)
 stack-few u [] b s = omega arith
 stack-few u (x ∷ ks) b s = go (leb 12 (length ks)) refl (stack-few x ks (s .0) (s .1))
   where
@@ -72,7 +74,8 @@ lane-header m a h (x ∷ ks) L =
     let e : h .number ≡ length ks + 3 = omega (arith, L .number) in
     let i : usedEnd a ≤ length m = standing-facts a (length m) (L .stands) .in-memory in
     let k : ℕ = length (x ∷ ks) in
-    let f : k * (2 ^ sizeTop + linkSize) ≤ usedEnd a + 12 * (2 ^ sizeTop + linkSize) = stack-few (usedEnd a) (x ∷ ks) (L .below) (L .tip .3) in
+    let f : k * (2 ^ sizeTop + linkSize) ≤ usedEnd a + 12 * (2 ^ sizeTop + linkSize) =
+    stack-few (usedEnd a) (x ∷ ks) (L .below) (L .tip .3) in
     let o : h .head ≤ x = rw (L .tip .0) (oldest-low x ks (L .tip .3)) in
     let r : h .remaining ≤ blockSize (h .number) = rw e (L .tip .1) in
     record {
@@ -94,7 +97,8 @@ lane-header m a h (x ∷ ks) L =
 -- ---- good spans
 
 -- a span that ends in the used part, and on one page
-lies-good : (m : List ℕ) (a : Arena) (at n : ℕ) → standing a (length m) ≡ true → 0 < n → placeOf (a .size) at + n ≤ a .size → at + n ≤ usedEnd a
+lies-good : (m : List ℕ) (a : Arena) (at n : ℕ) → standing a (length m) ≡ true → 0 < n
+    → placeOf (a .size) at + n ≤ a .size → at + n ≤ usedEnd a
     → goodSpan a at n ≡ true
 lies-good m a at n s z p e = good-below a at n z p e (standing-facts a (length m) s .in-page)
 
@@ -105,31 +109,38 @@ lane-tail m a h (x ∷ ks) L =
     let t : h .tail ≡ x + (sizeOn ks - h .remaining) = omega (arith, L .tip) in
     rw (ne-eqb (h .number) freshNumber (λ z. omega (arith, L .number)))
     (lies-good m a (h .tail) (h .remaining + linkSize) (L .stands) (omega arith)
-    (rw t (placed-within (a .size) x (wideOn ks) (sizeOn ks - h .remaining) (h .remaining + linkSize) (omega arith) (omega (arith, L .tip .1)) (L .paged .0)))
+    (rw t (placed-within (a .size) x (wideOn ks) (sizeOn ks - h .remaining) (h .remaining + linkSize) (omega arith)
+    (omega (arith, L .tip .1)) (L .paged .0)))
     (omega (arith, L .tip .2, L .below .0)))
 
 -- the links lead from the head to the newest block
-pub place-newest : (m : List ℕ) (hd x : ℕ) (ks : List ℕ) → Links m (x ∷ ks) → hd ≡ oldest x ks → blockPlace m hd (length ks) ≡ x
+pub place-newest : (m : List ℕ) (hd x : ℕ) (ks : List ℕ) → Links m (x ∷ ks) → hd ≡ oldest x ks
+    → blockPlace m hd (length ks) ≡ x
 unfolding blockPlace
 place-newest m hd x [] l e = e
 place-newest m hd x (y ∷ ks) l e = rw (place-newest m hd y ks (l .1) e) (l .0)
 
 -- so each block on the way is a good span
-place-good : (m : List ℕ) (a : Arena) (hd x : ℕ) (ks : List ℕ) → standing a (length m) ≡ true → Links m (x ∷ ks) → hd ≡ oldest x ks
-    → Below (usedEnd a) (x ∷ ks) → Paged (a .size) (x ∷ ks) → (i : ℕ) → i ≤ length ks → goodSpan a (blockPlace m hd i) (blockSize (i + 3) + linkSize) ≡ true
+place-good : (m : List ℕ) (a : Arena) (hd x : ℕ) (ks : List ℕ) → standing a (length m) ≡ true → Links m (x ∷ ks)
+    → hd ≡ oldest x ks
+    → Below (usedEnd a) (x ∷ ks) → Paged (a .size) (x ∷ ks) → (i : ℕ) → i ≤ length ks
+    → goodSpan a (blockPlace m hd i) (blockSize (i + 3) + linkSize) ≡ true
 place-good m a hd x [] s l e b p i h =
     let z : i ≡ length {A = ℕ} [] = omega arith in
     rw (z, place-newest m hd x [] l e) (lies-good m a x (wideOn []) s (omega arith) (p .0) (b .0))
 place-good m a hd x (y ∷ ks) s l e b p i h =
     go (eqb i (length (y ∷ ks))) refl (λ k. place-good m a hd y ks s (l .1) e (b .1) (p .1) i k)
   where
-    go : (t : Bool) → eqb i (length (y ∷ ks)) ≡ t → (i ≤ length ks → goodSpan a (blockPlace m hd i) (blockSize (i + 3) + linkSize) ≡ true)
+    go : (t : Bool) → eqb i (length (y ∷ ks)) ≡ t
+        → (i ≤ length ks → goodSpan a (blockPlace m hd i) (blockSize (i + 3) + linkSize) ≡ true)
         → goodSpan a (blockPlace m hd i) (blockSize (i + 3) + linkSize) ≡ true
     go true q f =
-        rw (eqb-true i (length (y ∷ ks)) q, place-newest m hd x (y ∷ ks) l e) (lies-good m a x (wideOn (y ∷ ks)) s (omega arith) (p .0) (b .0))
+        rw (eqb-true i (length (y ∷ ks)) q, place-newest m hd x (y ∷ ks) l e)
+        (lies-good m a x (wideOn (y ∷ ks)) s (omega arith) (p .0) (b .0))
     go false q f = let z : i ≡ suc (length ks) → ⊥ = eqb-false i (length (y ∷ ks)) q in f (omega arith)
 
-good-up : (m : List ℕ) (a : Arena) (hd n : ℕ) → ((i : ℕ) → i < n → goodSpan a (blockPlace m hd i) (blockSize (i + 3) + linkSize) ≡ true)
+good-up : (m : List ℕ) (a : Arena) (hd n : ℕ)
+    → ((i : ℕ) → i < n → goodSpan a (blockPlace m hd i) (blockSize (i + 3) + linkSize) ≡ true)
     → (k : ℕ) → k ≤ n → goodBlocks a m hd k ≡ true
 unfolding goodBlocks
 good-up m a hd n f zero h = refl
@@ -142,17 +153,20 @@ block-good m a h [] L i k = absurd (omega (arith, L .number))
 block-good m a h (x ∷ ks) L i k =
     place-good m a (h .head) x ks (L .stands) (L .links) (L .tip .0) (L .below) (L .paged) i (omega (arith, L .number))
 
-pub lane-blocks : (m : List ℕ) (a : Arena) (h : Header) (ks : List ℕ) → Lane m a h ks → (k : ℕ) → k ≤ blockCount h → goodBlocks a m (h .head) k ≡ true
+pub lane-blocks : (m : List ℕ) (a : Arena) (h : Header) (ks : List ℕ) → Lane m a h ks → (k : ℕ) → k ≤ blockCount h
+    → goodBlocks a m (h .head) k ≡ true
 lane-blocks m a h ks L k i = good-up m a (h .head) (blockCount h) (block-good m a h ks L) k i
 
 -- ---- the bytes
 
-full-blocks : (m : List ℕ) (hd x : ℕ) (ks : List ℕ) → Links m (x ∷ ks) → hd ≡ oldest x ks → fullBlocks m hd (length ks) ≡ fullContent m ks
+full-blocks : (m : List ℕ) (hd x : ℕ) (ks : List ℕ) → Links m (x ∷ ks) → hd ≡ oldest x ks
+    → fullBlocks m hd (length ks) ≡ fullContent m ks
 unfolding fullBlocks
 full-blocks m hd x [] l e = refl
 full-blocks m hd x (y ∷ ks) l e = rw (full-blocks m hd y ks (l .1) e, place-newest m hd y ks (l .1) e)
 
-pub lane-reads : (m : List ℕ) (a : Arena) (h : Header) (ks : List ℕ) → Lane m a h ks → laneBytes m h ≡ content m ks (h .remaining)
+pub lane-reads : (m : List ℕ) (a : Arena) (h : Header) (ks : List ℕ) → Lane m a h ks
+    → laneBytes m h ≡ content m ks (h .remaining)
 unfolding laneBytes
 lane-reads m a h [] L = rw (eq-eqb (h .number) freshNumber (L .number))
 lane-reads m a h (x ∷ ks) L =
@@ -176,7 +190,8 @@ length-full u m (x ∷ ks) b h =
     ∙ rw (length-full u m ks (b .1) h, length-span x (sizeOn ks) m (omega (arith, b .0)))
 
 -- by the blocks
-pub content-length : (m : List ℕ) (a : Arena) (h : Header) (ks : List ℕ) → Lane m a h ks → length (content m ks (h .remaining)) + h .remaining ≡ fullBytes (length ks)
+pub content-length : (m : List ℕ) (a : Arena) (h : Header) (ks : List ℕ) → Lane m a h ks
+    → length (content m ks (h .remaining)) + h .remaining ≡ fullBytes (length ks)
 unfolding fullBytes
 content-length m a h [] L = omega (arith, L .tip)
 content-length m a h (x ∷ ks) L =
@@ -190,13 +205,15 @@ content-length m a h (x ∷ ks) L =
     )
 
 -- and by the header alone
-pub lane-length : (m : List ℕ) (a : Arena) (h : Header) (ks : List ℕ) → Lane m a h ks → laneLength h ≡ length (content m ks (h .remaining))
+pub lane-length : (m : List ℕ) (a : Arena) (h : Header) (ks : List ℕ) → Lane m a h ks
+    → laneLength h ≡ length (content m ks (h .remaining))
 unfolding laneLength fullBytes
 lane-length m a h [] L = rw (eq-eqb (h .number) freshNumber (L .number))
 lane-length m a h (x ∷ ks) L =
     let e : h .number ≡ length ks + 3 = omega (arith, L .number) in
     let c : blockCount h - 1 ≡ length ks = omega arith in
-    rw (ne-eqb (h .number) freshNumber (λ z. omega arith), c, e) (omega (arith, content-length m a h (x ∷ ks) L, L .tip .1))
+    rw (ne-eqb (h .number) freshNumber (λ z. omega arith), c, e)
+    (omega (arith, content-length m a h (x ∷ ks) L, L .tip .1))
 
 -- ---- finding a block
 
@@ -219,7 +236,8 @@ length-within h i k = go (eqb (i + 1) (blockCount h)) refl
         let z : i + 1 ≡ blockCount h → ⊥ = eqb-false (i + 1) (blockCount h) q in
         omega (arith, length-before h i (omega arith))
 
-pub lane-block : (m : List ℕ) (a : Arena) (h : Header) (ks : List ℕ) → Lane m a h ks → (i : ℕ) → i < blockCount h → FoundBlock m a h i
+pub lane-block : (m : List ℕ) (a : Arena) (h : Header) (ks : List ℕ) → Lane m a h ks → (i : ℕ) → i < blockCount h
+    → FoundBlock m a h i
 unfolding blockOf
 lane-block m a h ks L i k = record {
   told = rw (lt-leb (blockCount h) i k, lane-blocks m a h ks L (i + 1) (omega arith));
@@ -238,7 +256,8 @@ unfolding fullBlocks
 pieces-full m h zero l = refl
 pieces-full m h (suc k) l = rw (pieces-full m h k (omega arith), length-before h k (omega arith))
 
-pub lane-pieces : (m : List ℕ) (a : Arena) (h : Header) (ks : List ℕ) → Lane m a h ks → pieces m h (blockCount h) ≡ content m ks (h .remaining)
+pub lane-pieces : (m : List ℕ) (a : Arena) (h : Header) (ks : List ℕ) → Lane m a h ks
+    → pieces m h (blockCount h) ≡ content m ks (h .remaining)
 lane-pieces m a h [] L = let c : blockCount h ≡ 0 = omega (arith, L .number) in rw c
 lane-pieces m a h (x ∷ ks) L =
     let c : blockCount h ≡ suc (length ks) = omega (arith, L .number) in

@@ -8,8 +8,8 @@ use lib.Pow.{pow-mono}
 use lib.ListN.{length}
 use Rattle.limits.specs.Limits.{sizeTop, linkSize}
 use Rattle.memory_arena.specs.declared.Arena.{Arena}
-use Rattle.expull.specs.declared.Header.{Header}
-use Rattle.expull.specs.Header.{blockSize, fullBytes}
+use Rattle.expull_header.specs.declared.Header.{Header}
+use Rattle.expull_header.specs.Header.{blockSize, fullBytes}
 use Rattle.history_lanes.specs.Lane.{content, blocksWide, Lane}
 use Rattle.history_lanes.proofs.Readings.{content-length}
 
@@ -30,9 +30,11 @@ unfolding fullBytes
 wide-sum [] = omega arith
 wide-sum (x ∷ ks) = omega (arith, wide-sum ks)
 
--- "With k blocks and n bytes, n ≥ 1, a lane takes at most 2n + 6 + 4k list bytes, page tails not counted." With no bytes there are no blocks.
+-- "With k blocks and n bytes, n ≥ 1, a lane takes at most 2n + 6 + 4k list bytes, page tails not counted." With no
+-- bytes there are no blocks.
 pub lane-room : (m : List ℕ) (a : Arena) (h : Header) (ks : List ℕ) → Lane m a h ks
     → blocksWide ks ≤ 2 * length (content m ks (h .remaining)) + 6 + 4 * length ks
 unfolding fullBytes
 lane-room m a h [] L = omega arith
-lane-room m a h (x ∷ ks) L = omega (arith, wide-sum (x ∷ ks), content-length m a h (x ∷ ks) L, size-sum (length ks), L .begun)
+lane-room m a h (x ∷ ks) L =
+    omega (arith, wide-sum (x ∷ ks), content-length m a h (x ∷ ks) L, size-sum (length ks), L .begun)

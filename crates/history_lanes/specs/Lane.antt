@@ -13,11 +13,11 @@ use Rattle.spans.specs.Span.{readSpan, Apart}
 use Rattle.memory_arena.specs.declared.Arena.{Arena}
 use Rattle.memory_arena.specs.Address.{addressOf, placeOf}
 use Rattle.memory_arena.specs.Pages.{standing, goodSpan}
-use Rattle.expull.specs.declared.Header.{Header}
-use Rattle.expull.specs.declared.Block.the-variants.{BlockAt}
-use Rattle.expull.specs.Header.{blockSize, soundHeader}
-use Rattle.expull.specs.Append.{Writing}
-use Rattle.expull.specs.Blocks.{blockPlace, blockLength, blockOf}
+use Rattle.expull_header.specs.declared.Header.{Header}
+use Rattle.expull_walk.specs.declared.Block.the-variants.{BlockAt}
+use Rattle.expull_header.specs.Header.{blockSize, soundHeader}
+use Rattle.expull_append.specs.Append.{Writing}
+use Rattle.expull_walk.specs.Blocks.{blockPlace, blockLength, blockOf}
 
 -- ---- the blocks
 

@@ -26,7 +26,8 @@ use Rattle.history_names.proofs.Lookup.{empty-bucket, named-bucket}
 -- ---- what entering writes, whatever the words
 
 module _ (t : List ℕ) (first l : ℕ) where
-  free-turn : (n i : ℕ) (b : Bool) → emptyAt t (first + i) ≡ b → freeFrom t first l (suc n) i ≡ cond b i (freeFrom t first l n (nextBucket l i))
+  free-turn : (n i : ℕ) (b : Bool) → emptyAt t (first + i) ≡ b
+      → freeFrom t first l (suc n) i ≡ cond b i (freeFrom t first l n (nextBucket l i))
   unfolding freeFrom
   free-turn n i b e = ap (λ (b : Bool). cond b i (freeFrom t first l n (nextBucket l i))) e
 
@@ -49,12 +50,14 @@ module _ (t : List ℕ) (first l : ℕ) where
     unfolding entered
     entered-full e = rw (eq-eqb (freeOf t first l hash) l e)
 
-    entered-free : freeOf t first l hash ≢ l → entered first l address hash t ≡ withBucket (first + freeOf t first l hash) address hash t
+    entered-free : freeOf t first l hash ≢ l
+        → entered first l address hash t ≡ withBucket (first + freeOf t first l hash) address hash t
     unfolding entered
     entered-free e = rw (ne-eqb (freeOf t first l hash) l e)
 
     -- a fact of both outcomes
-    entered-either : (P : List ℕ → Type 0) → P t → (freeOf t first l hash ≢ l → P (withBucket (first + freeOf t first l hash) address hash t))
+    entered-either : (P : List ℕ → Type 0) → P t
+        → (freeOf t first l hash ≢ l → P (withBucket (first + freeOf t first l hash) address hash t))
         → P (entered first l address hash t)
     entered-either P x y = go (ℕ-discrete (freeOf t first l hash) l)
       where
@@ -63,7 +66,9 @@ module _ (t : List ℕ) (first l : ℕ) where
         go (no e) = subst P (sym (entered-free e)) (y e)
 
     pub enter-length : length (entered first l address hash t) ≡ length t
-    enter-length = entered-either (λ (u : List ℕ). length u ≡ length t) refl (λ e. length-bucket (first + freeOf t first l hash) address hash t)
+    enter-length =
+        entered-either (λ (u : List ℕ). length u ≡ length t) refl
+        (λ e. length-bucket (first + freeOf t first l hash) address hash t)
 
     -- every word outside the table is as it was
     pub enter-frame : 0 < l → (q : ℕ) → Outside first l q → getD (entered first l address hash t) q 0 ≡ getD t q 0
@@ -75,12 +80,14 @@ module _ (t : List ℕ) (first l : ℕ) where
             → (q < 2 * (first + freeOf t first l hash)) ⊎ (2 * (first + freeOf t first l hash) + 2 ≤ q)
         apart e (inl p) = inl (omega arith)
         apart e (inr p) =
-            let b : freeOf t first l hash ≤ l = rw (free-start hash) (free-bound l (startOf l hash) (start-below l hash h)) in
+            let b : freeOf t first l hash ≤ l =
+            rw (free-start hash) (free-bound l (startOf l hash) (start-below l hash h)) in
             inr (omega arith)
 
 -- ---- the same bucket in other words
 
-pub shows-same : (t u : List ℕ) (b : ℕ) (hash adr : List ℕ → ℕ) (o : Option (List ℕ)) → addressAt u b ≡ addressAt t b → hashAt u b ≡ hashAt t b
+pub shows-same : (t u : List ℕ) (b : ℕ) (hash adr : List ℕ → ℕ) (o : Option (List ℕ)) → addressAt u b ≡ addressAt t b
+    → hashAt u b ≡ hashAt t b
     → Shows t b hash adr o → Shows u b hash adr o
 shows-same t u b hash adr none p q s = p ∙ s
 shows-same t u b hash adr (some k) p q s = (p ∙ s .0, q ∙ s .1, s .2)
@@ -106,8 +113,13 @@ module _ {t : List ℕ} {first l : ℕ} {hash adr : List ℕ → ℕ} {g : Names
       go none e r = inr (subst (FirstFree (suc n) i) (sym (free-turn t first l n i true (empty-bucket T i h e)))
           (record { below = h; empty = e; met = λ k. inl (getD-set-same g i (some k) none (omega (arith, T .long))) }))
       go (some y) e (inl r) = inl ((y, e), r)
-      go (some y) e (inr r) = inr (subst (FirstFree (suc n) i) (sym (free-turn t first l n i false (named-bucket T i y e)))
-          (record { below = r .below; empty = r .empty; met = λ k. inr (fill-taken g f k (r .empty) i (y, e), r .met k) }))
+      go (some y) e (inr r) =
+          inr (subst (FirstFree (suc n) i) (sym (free-turn t first l n i false (named-bucket T i y e)))
+          (record {
+            below = r .below;
+            empty = r .empty;
+            met = λ k. inr (fill-taken g f k (r .empty) i (y, e), r .met k);
+          }))
 
   -- with room there is such a bucket
   free-found : (h : ℕ) → occupied g < l → FirstFree l (startOf l h) (freeOf t first l h)
@@ -118,17 +130,20 @@ module _ {t : List ℕ} {first l : ℕ} {hash adr : List ℕ → ℕ} {g : Names
       (free-cases l (startOf l h) b))
 
   -- it filled with a name that isn't in the table, at its record's address
-  module _ (k : List ℕ) (f : ℕ) (F : FirstFree l (startOf l (hash k)) f) (stranger : Member k g → ⊥) (address : adr k ≢ nullAddress) where
+  module _ (k : List ℕ) (f : ℕ) (F : FirstFree l (startOf l (hash k)) f) (stranger : Member k g → ⊥)
+      (address : adr k ≢ nullAddress) where
     inside-table : f < length g
     inside-table = omega (arith, F .below, T .long)
 
     bucket-fits : 2 * (first + f) + 2 ≤ length t
     bucket-fits = omega (arith, T .inside, F .below)
 
-    filled-shows : (i : ℕ) → i < l → Shows (withBucket (first + f) (adr k) (hash k) t) (first + i) hash adr (nameAt (set g f (some k)) i)
+    filled-shows : (i : ℕ) → i < l
+        → Shows (withBucket (first + f) (adr k) (hash k) t) (first + i) hash adr (nameAt (set g f (some k)) i)
     filled-shows i h = go (ℕ-discrete i f)
       where
-        go : Dec (i ≡ f) → Shows (withBucket (first + f) (adr k) (hash k) t) (first + i) hash adr (nameAt (set g f (some k)) i)
+        go : Dec (i ≡ f) → Shows (withBucket (first + f) (adr k) (hash k) t) (first + i) hash adr
+            (nameAt (set g f (some k)) i)
         go (yes e) =
             rw (e, getD-set-same g f (some k) none inside-table) (
               bucket-address (first + f) (adr k) (hash k) t bucket-fits,
@@ -138,17 +153,21 @@ module _ {t : List ℕ} {first l : ℕ} {hash adr : List ℕ → ℕ} {g : Names
         go (no e) =
             let o = bucket-other (first + f) (adr k) (hash k) t (first + i) (omega arith) in
             rw (getD-set-other g f i (some k) none e)
-            (shows-same t (withBucket (first + f) (adr k) (hash k) t) (first + i) hash adr (nameAt g i) (o .0) (o .1) (T .shows i h))
+            (shows-same t (withBucket (first + f) (adr k) (hash k) t) (first + i) hash adr (nameAt g i) (o .0) (o .1)
+            (T .shows i h))
 
-    filled-reachable : (y : List ℕ) → Member y (set g f (some k)) → Reached (set g f (some k)) l y l (startOf l (hash y))
+    filled-reachable : (y : List ℕ) → Member y (set g f (some k))
+        → Reached (set g f (some k)) l y l (startOf l (hash y))
     filled-reachable y m =
         ⊎-elim
         (λ e. subst (λ (y : List ℕ). Reached (set g f (some k)) l y l (startOf l (hash y))) (sym (e .0)) (F .met k))
         (λ e. fill-reached g f k (F .empty) l l (startOf l (hash y)) y (T .reachable y (m .0, e)))
         (fill-only g f k (F .empty) (m .0) y inside-table (m .1))
 
-    filled-once : (y : List ℕ) (i j : ℕ) → nameAt (set g f (some k)) i ≡ some y → nameAt (set g f (some k)) j ≡ some y → i ≡ j
-    filled-once y i j p q = go (fill-only g f k (F .empty) i y inside-table p) (fill-only g f k (F .empty) j y inside-table q)
+    filled-once : (y : List ℕ) (i j : ℕ) → nameAt (set g f (some k)) i ≡ some y → nameAt (set g f (some k)) j ≡ some y
+        → i ≡ j
+    filled-once y i j p q =
+        go (fill-only g f k (F .empty) i y inside-table p) (fill-only g f k (F .empty) j y inside-table q)
       where
         strange : (x : ℕ) → y ≡ k → nameAt g x ≡ some y → i ≡ j
         strange x e n = absurd (stranger (x, renamed n e))
@@ -188,7 +207,8 @@ module _ {t : List ℕ} {first l : ℕ} {hash adr : List ℕ → ℕ} {g : Names
 
   -- a name that isn't in the table, entered where there is room: the table has it, and every name that it had, and no
   -- other
-  pub enters : (k : List ℕ) → (Member k g → ⊥) → occupied g < l → adr k ≢ nullAddress → (g′ : Names) × Enters t first l hash adr g k g′
+  pub enters : (k : List ℕ) → (Member k g → ⊥) → occupied g < l → adr k ≢ nullAddress
+      → (g′ : Names) × Enters t first l hash adr g k g′
   enters k stranger room address =
       let f : ℕ = freeOf t first l (hash k) in
       let F : FirstFree l (startOf l (hash k)) f = free-found (hash k) room in

@@ -24,8 +24,10 @@ use Rattle.history_names.proofs.Enter.{shows-same, enters, enter-length
 -- ---- the same table
 
 -- in words that agree with it on the table
-pub table-kept : {t : List ℕ} {first l : ℕ} {hash adr : List ℕ → ℕ} {g : Names} → Table t first l hash adr g → (u : List ℕ)
-    → length u ≡ length t → ((q : ℕ) → 2 * first ≤ q → q < 2 * (first + l) → getD u q 0 ≡ getD t q 0) → Table u first l hash adr g
+pub table-kept : {t : List ℕ} {first l : ℕ} {hash adr : List ℕ → ℕ} {g : Names} → Table t first l hash adr g
+    → (u : List ℕ)
+    → length u ≡ length t → ((q : ℕ) → 2 * first ≤ q → q < 2 * (first + l) → getD u q 0 ≡ getD t q 0)
+    → Table u first l hash adr g
 table-kept {t} {first} {l} {hash} {adr} {g} T u e f = record {
   some-bucket = T .some-bucket;
   inside = rw e (T .inside);
@@ -37,7 +39,8 @@ table-kept {t} {first} {l} {hash} {adr} {g} T u e f = record {
 }
 
 -- with addresses that agree on its names
-pub table-readdressed : {t : List ℕ} {first l : ℕ} {hash adr : List ℕ → ℕ} {g : Names} → Table t first l hash adr g → (adr′ : List ℕ → ℕ)
+pub table-readdressed : {t : List ℕ} {first l : ℕ} {hash adr : List ℕ → ℕ} {g : Names} → Table t first l hash adr g
+    → (adr′ : List ℕ → ℕ)
     → ((k : List ℕ) → Member k g → adr′ k ≡ adr k) → Table t first l hash adr′ g
 table-readdressed {t} {first} {l} {hash} {adr} {g} T adr′ f = record {
   some-bucket = T .some-bucket;
@@ -48,7 +51,8 @@ table-readdressed {t} {first} {l} {hash} {adr} {g} T adr′ f = record {
   once = T .once;
 }
   where
-    go : (i : ℕ) (o : Option (List ℕ)) → nameAt g i ≡ o → Shows t (first + i) hash adr o → Shows t (first + i) hash adr′ o
+    go : (i : ℕ) (o : Option (List ℕ)) → nameAt g i ≡ o → Shows t (first + i) hash adr o
+        → Shows t (first + i) hash adr′ o
     go i none e s = s
     go i (some k) e s = let p : adr′ k ≡ adr k = f k (i, e) in (s .0 ∙ sym p, s .1, λ q. s .2 (sym p ∙ q))
 
@@ -67,7 +71,8 @@ clears-count zero = refl
 clears-count (suc n) = clears-count n
 
 -- cleared buckets are a table of no names
-pub clears : (t : List ℕ) (b l : ℕ) (hash adr : List ℕ → ℕ) → 0 < l → 2 * (b + l) ≤ length t → Table (cleared b l t) b l hash adr (replicate l none)
+pub clears : (t : List ℕ) (b l : ℕ) (hash adr : List ℕ → ℕ) → 0 < l → 2 * (b + l) ≤ length t
+    → Table (cleared b l t) b l hash adr (replicate l none)
 clears t b l hash adr h k = record {
   some-bucket = h;
   inside = rw (length-cleared b l t) k;
@@ -84,11 +89,13 @@ module _ (first l : ℕ) where
   unfolding reentered
   reentered-empty b u e = rw e
 
-  reentered-named : (b : ℕ) (u : List ℕ) → emptyAt u b ≡ false → reentered b first l u ≡ entered first l (addressAt u b) (hashAt u b) u
+  reentered-named : (b : ℕ) (u : List ℕ) → emptyAt u b ≡ false
+      → reentered b first l u ≡ entered first l (addressAt u b) (hashAt u b) u
   unfolding reentered
   reentered-named b u e = rw e
 
-  reentered-either : (b : ℕ) (u : List ℕ) (P : List ℕ → Type 0) → P u → P (entered first l (addressAt u b) (hashAt u b) u) → P (reentered b first l u)
+  reentered-either : (b : ℕ) (u : List ℕ) (P : List ℕ → Type 0) → P u
+      → P (entered first l (addressAt u b) (hashAt u b) u) → P (reentered b first l u)
   reentered-either b u P x y = go (emptyAt u b) refl
     where
       go : (e : Bool) → emptyAt u b ≡ e → P (reentered b first l u)
@@ -101,22 +108,26 @@ module _ (first l : ℕ) where
   unfolding allReentered
   reentered-all P f zero b u x = x
   reentered-all P f (suc n) b u x =
-      reentered-all P f n (b + 1) (reentered b first l u) (reentered-either b u P x (f u (addressAt u b) (hashAt u b) x))
+      reentered-all P f n (b + 1) (reentered b first l u)
+      (reentered-either b u P x (f u (addressAt u b) (hashAt u b) x))
 
   module _ (n old : ℕ) (t : List ℕ) where
     -- every word outside the new table is as it was
     pub grow-frame : 0 < l → (q : ℕ) → Outside first l q → getD (grown n old first l t) q 0 ≡ getD t q 0
     unfolding grown
     grow-frame p q d =
-        reentered-all (λ (u : List ℕ). getD u q 0 ≡ getD t q 0) (λ u a h e. enter-frame u first l a h p q d ∙ e) n old (cleared first l t)
+        reentered-all (λ (u : List ℕ). getD u q 0 ≡ getD t q 0) (λ u a h e. enter-frame u first l a h p q d ∙ e) n old
+        (cleared first l t)
         (clear-frame first l t q d)
 
 -- ---- the names, bucket by bucket
 
-module _ {t : List ℕ} {first l : ℕ} {hash adr : List ℕ → ℕ} {g : Names} (T : Table t first l hash adr g) (first′ l′ : ℕ) (apart : Apart first l first′ l′)
+module _ {t : List ℕ} {first l : ℕ} {hash adr : List ℕ → ℕ} {g : Names} (T : Table t first l hash adr g) (first′ l′ : ℕ)
+    (apart : Apart first l first′ l′)
     (some-bucket : 0 < l′) (room : occupied g ≤ l′) where
   -- words that agree outside the new table have the old table too
-  old-kept : (u v : List ℕ) → Table u first l hash adr g → length v ≡ length u → ((q : ℕ) → Outside first′ l′ q → getD v q 0 ≡ getD u q 0)
+  old-kept : (u v : List ℕ) → Table u first l hash adr g → length v ≡ length u
+      → ((q : ℕ) → Outside first′ l′ q → getD v q 0 ≡ getD u q 0)
       → Table v first l hash adr g
   old-kept u v O e f = table-kept O v e (λ q h k. f q (outside q h k apart))
     where
@@ -133,7 +144,8 @@ module _ {t : List ℕ} {first l : ℕ} {hash adr : List ℕ → ℕ} {g : Names
     many : occupied g′ ≡ occupied (take i g)
 
   module _ (i : ℕ) (u : List ℕ) (g′ : Names) (h : i < l) (M : Midway i u g′) where
-    turn-count : (o : Option (List ℕ)) → nameAt g i ≡ o → occupied (take (suc i) g) ≡ occupied (take i g) + occupied (o ∷ [])
+    turn-count : (o : Option (List ℕ)) → nameAt g i ≡ o
+        → occupied (take (suc i) g) ≡ occupied (take i g) + occupied (o ∷ [])
     turn-count o e =
         ap occupied (take-suc g i none (omega (arith, T .long)) ∙ ap (λ (o : Option (List ℕ)). take i g ++ (o ∷ [])) e)
         ∙ occupied-append (take i g) (o ∷ [])
@@ -150,10 +162,12 @@ module _ {t : List ℕ} {first l : ℕ} {hash adr : List ℕ → ℕ} {g : Names
         below : (n : List ℕ) (j : ℕ) → j < suc i → nameAt g j ≡ some n → j < i
         below n j b p = let q : j ≢ i = λ r. clash (ap (nameAt g) r ∙ e) p in omega arith
 
-    turn-named : (k : List ℕ) → nameAt g i ≡ some k → (g″ : Names) × Midway (suc i) (entered first′ l′ (adr k) (hash k) u) g″
+    turn-named : (k : List ℕ) → nameAt g i ≡ some k
+        → (g″ : Names) × Midway (suc i) (entered first′ l′ (adr k) (hash k) u) g″
     turn-named k e =
         let s : Shows u (first + i) hash adr (some k) = named-shows (M .old) i k e in
-        let E = enters (M .table) k stranger (omega (arith, M .many, turn-count (some k) e, occupied-part g (suc i))) (s .2) in (
+        let E = enters (M .table) k stranger (omega (arith, M .many, turn-count (some k) e, occupied-part g (suc i)))
+        (s .2) in (
           E .0,
           record {
             old =
@@ -169,7 +183,8 @@ module _ {t : List ℕ} {first l : ℕ} {hash adr : List ℕ → ℕ} {g : Names
         stranger : Member k g′ → ⊥
         stranger m = let o = M .only k m in omega (arith, o .1, T .once k (o .0) i (o .2) e)
 
-        here : (g″ : Names) → Enters u first′ l′ hash adr g′ k g″ → (n : List ℕ) (j : ℕ) → j < suc i → nameAt g j ≡ some n → Dec (j ≡ i) → Member n g″
+        here : (g″ : Names) → Enters u first′ l′ hash adr g′ k g″ → (n : List ℕ) (j : ℕ) → j < suc i
+            → nameAt g j ≡ some n → Dec (j ≡ i) → Member n g″
         here g″ E n j b p (yes q) =
             let r : nameAt g j ≡ some k = ap (nameAt g) q ∙ e in
             let x : n ≡ k = cc in
@@ -183,13 +198,15 @@ module _ {t : List ℕ} {first l : ℕ} {hash adr : List ℕ → ℕ} {g : Names
     turn : (g″ : Names) × Midway (suc i) (reentered (first + i) first′ l′ u) g″
     turn = go (nameAt g i) refl
       where
-        go : (o : Option (List ℕ)) → nameAt g i ≡ o → (g″ : Names) × Midway (suc i) (reentered (first + i) first′ l′ u) g″
+        go : (o : Option (List ℕ)) → nameAt g i ≡ o
+            → (g″ : Names) × Midway (suc i) (reentered (first + i) first′ l′ u) g″
         go none e = (g′, rw (reentered-empty first′ l′ (first + i) u (empty-bucket (M .old) i h e)) (turn-empty e))
         go (some k) e =
             let s : Shows u (first + i) hash adr (some k) = named-shows (M .old) i k e in
             rw (reentered-named first′ l′ (first + i) u (named-bucket (M .old) i k e), s .0, s .1) (turn-named k e)
 
-  turns : (n i : ℕ) (u : List ℕ) (g′ : Names) → i + n ≡ l → Midway i u g′ → (g″ : Names) × Midway l (allReentered n (first + i) first′ l′ u) g″
+  turns : (n i : ℕ) (u : List ℕ) (g′ : Names) → i + n ≡ l → Midway i u g′
+      → (g″ : Names) × Midway l (allReentered n (first + i) first′ l′ u) g″
   unfolding allReentered
   turns zero i u g′ e M = (g′, subst (λ (i : ℕ). Midway i u g′) (omega arith) M)
   turns (suc n) i u g′ e M =

@@ -1,4 +1,5 @@
--- A listing of a table of names: the next name from each bucket, and the whole of it, in bucket order and each once. Assumes nothing.
+-- A listing of a table of names: the next name from each bucket, and the whole of it, in bucket order and each once.
+-- Assumes nothing.
 use Prim.Native.Nat.{ℕ, zero, suc, _+_, _-_, _≤_, _<_}
 use mathlib.Core.Path.{_≡_, refl, sym, ap, _∙_}
 use mathlib.Core.Logic.{_⊎_, inl, inr}
@@ -16,7 +17,8 @@ use Rattle.memory_arena.specs.declared.Arena.{Arena}
 use Rattle.shared_arena_hashmap.specs.declared.Next.{Next}
 use Rattle.shared_arena_hashmap.specs.declared.Next.the-variants.{Occupied, NoMore}
 use Rattle.shared_arena_hashmap.specs.Buckets.{addressAt, emptyAt}
-use Rattle.shared_arena_hashmap.specs.Probe.{keyAt, occupiedFrom}
+use Rattle.records.specs.Record.{keyAt}
+use Rattle.shared_arena_hashmap.specs.Probe.{occupiedFrom}
 use Rattle.history_names.specs.Table.{Names, nameAt, Member, occupied, Shows, Table, Records}
 use Rattle.history_names.specs.Listing.{FirstName, NoName, inOrder, times, listedNext, listing}
 use Rattle.history_names.proofs.Walk.{named-below, clash, renamed}
@@ -39,13 +41,15 @@ order-none (some k ∷ g) f = clash (f 0) refl
 order-end : (g : Names) (i : ℕ) → NoName g i → inOrder (drop i g) ≡ []
 order-end g i f = order-none (drop i g) (λ x. getD-drop i g x none ∙ f (i + x) (omega arith))
 
-order-first : (g : Names) (m i j : ℕ) (k : List ℕ) → j ≡ i + m → FirstName g i j k → inOrder (drop i g) ≡ k ∷ inOrder (drop (j + 1) g)
+order-first : (g : Names) (m i j : ℕ) (k : List ℕ) → j ≡ i + m → FirstName g i j k
+    → inOrder (drop i g) ≡ k ∷ inOrder (drop (j + 1) g)
 order-first g zero i j k e F =
     let p : i ≡ j = omega arith in
     rw (p, add-one j, drop-cons g j none (named-below g j k (F .named)), F .named)
 order-first g (suc m) i j k e F =
     rw (drop-cons g i none (omega (arith, named-below g j k (F .named))), F .least i (omega arith) (omega arith))
-    (order-first g m (suc i) j k (omega arith) (record { from = omega arith; named = F .named; least = λ x p q. F .least x (omega arith) q }))
+    (order-first g m (suc i) j k (omega arith)
+    (record { from = omega arith; named = F .named; least = λ x p q. F .least x (omega arith) q }))
 
 -- each as often as it stands
 times-none : (k : List ℕ) (g : Names) → (Member k g → ⊥) → times k (inOrder g) ≡ 0
@@ -69,7 +73,8 @@ times-once k (some y ∷ g) f (suc i) e =
     (times-once k g (λ i j p q. suc-inj (f (suc i) (suc j) p q)) i e)
 
 -- what is made of the names' addresses in the way that gives a name back
-order-back : (g : Names) (adr : List ℕ → ℕ) (f : ℕ → List ℕ) → ((k : List ℕ) → Member k g → f (adr k) ≡ k) → map f (map adr (inOrder g)) ≡ inOrder g
+order-back : (g : Names) (adr : List ℕ → ℕ) (f : ℕ → List ℕ) → ((k : List ℕ) → Member k g → f (adr k) ≡ k)
+    → map f (map adr (inOrder g)) ≡ inOrder g
 order-back [] adr f h = refl
 order-back (none ∷ g) adr f h = order-back g adr f (λ k m. h k (suc (m .0), m .1))
 order-back (some k ∷ g) adr f h = λ i. h k (0, refl) i ∷ order-back g adr f (λ k m. h k (suc (m .0), m .1)) i
@@ -79,7 +84,8 @@ order-back (some k ∷ g) adr f h = λ i. h k (0, refl) i ∷ order-back g adr f
 next-turn : (t : List ℕ) (first n i : ℕ) (b : Bool) → emptyAt t (first + i) ≡ b
     → occupiedFrom t first (suc n) i ≡ cond b (occupiedFrom t first n (i + 1)) (Occupied i (addressAt t (first + i)))
 unfolding occupiedFrom
-next-turn t first n i b e = ap (λ (b : Bool). cond b (occupiedFrom t first n (i + 1)) (Occupied i (addressAt t (first + i)))) e
+next-turn t first n i b e =
+    ap (λ (b : Bool). cond b (occupiedFrom t first n (i + 1)) (Occupied i (addressAt t (first + i)))) e
 
 next-end : (t : List ℕ) (first i : ℕ) → occupiedFrom t first zero i ≡ NoMore
 unfolding occupiedFrom
@@ -135,7 +141,8 @@ module _ {t : List ℕ} {first l : ℕ} {hash adr : List ℕ → ℕ} {g : Names
             next-turn t first n i false (named-bucket T i k p) ∙ ap (Occupied i) (s .0),
           )
 
-  -- the next occupied bucket from i is the first with a name, and its record is the name's; there is none where no name stands
+  -- the next occupied bucket from i is the first with a name, and its record is the name's; there is none where no name
+  -- stands
   pub lists-next : (i : ℕ)
       → ((j : ℕ) × (k : List ℕ) × FirstName g i j k × (occupiedFrom t first (l - i) i ≡ Occupied j (adr k)))
       ⊎ (NoName g i × (occupiedFrom t first (l - i) i ≡ NoMore))
@@ -165,5 +172,6 @@ module _ {t : List ℕ} {first l : ℕ} {hash adr : List ℕ → ℕ} {g : Names
   lists-only k f = times-none k g f
 
   -- the keys of the records that are listed are those names
-  pub lists-names : (keys : List ℕ) (a : Arena) → Records keys a adr g → map (keyAt keys) (listing t first l l 0) ≡ inOrder g
+  pub lists-names : (keys : List ℕ) (a : Arena) → Records keys a adr g
+      → map (keyAt keys) (listing t first l l 0) ≡ inOrder g
   lists-names keys a R = ap (map (keyAt keys)) lists-all ∙ order-back g adr (keyAt keys) (λ k m. R k m .1)

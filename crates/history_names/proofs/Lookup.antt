@@ -88,18 +88,21 @@ module _ {t : List ℕ} {first l : ℕ} {hash adr : List ℕ → ℕ} {g : Names
         let r = R k (i, e) in
         rw (named-bucket i k e, eq-eqb (hashAt t (first + i)) (hash k) (s .1), s .0, r .0, equal-same _ _ (r .1))
 
-    seen-other : (k y : List ℕ) (i : ℕ) → nameAt g i ≡ some y → (y ≡ k → ⊥) → seenAt t keys a (first + i) (hash k) k ≡ Other
+    seen-other : (k y : List ℕ) (i : ℕ) → nameAt g i ≡ some y → (y ≡ k → ⊥)
+        → seenAt t keys a (first + i) (hash k) k ≡ Other
     unfolding seenAt seenRecord
     seen-other k y i e n =
         let s : Shows t (first + i) hash adr (some y) = named-shows i y e in
         let r = R y (i, e) in
-        rw (named-bucket i y e, s .0, r .0, equal-not _ k (λ p. n (sym (r .1) ∙ p))) (either (eqb (hashAt t (first + i)) (hash k)) Other)
+        rw (named-bucket i y e, s .0, r .0, equal-not _ k (λ p. n (sym (r .1) ∙ p)))
+        (either (eqb (hashAt t (first + i)) (hash k)) Other)
 
 -- ---- a walk, bucket by bucket
 
 module _ (t keys : List ℕ) (a : Arena) (first l h : ℕ) (k : List ℕ) where
   probe-turn : (n i c : ℕ) (s : Seen) → seenAt t keys a (first + i) h k ≡ s
-      → probe t keys a first l h k (suc n) i c ≡ onSeen s (c + 1) (probe t keys a first l h k n (nextBucket l i) (c + 1))
+      → probe t keys a first l h k (suc n) i c
+      ≡ onSeen s (c + 1) (probe t keys a first l h k n (nextBucket l i) (c + 1))
   unfolding probe
   probe-turn n i c s e = ap (λ (s : Seen). onSeen s (c + 1) (probe t keys a first l h k n (nextBucket l i) (c + 1))) e
 
@@ -111,7 +114,8 @@ module _ (t keys : List ℕ) (a : Arena) (first l h : ℕ) (k : List ℕ) where
   unfolding lookup
   lookup-probe = refl
 
-module _ {t : List ℕ} {first l : ℕ} {hash adr : List ℕ → ℕ} {g : Names} (T : Table t first l hash adr g) (keys : List ℕ) (a : Arena) where
+module _ {t : List ℕ} {first l : ℕ} {hash adr : List ℕ → ℕ} {g : Names} (T : Table t first l hash adr g) (keys : List ℕ)
+    (a : Arena) where
   module _ (R : Records keys a adr g) (k : List ℕ) where
     abbrev met-from : ℕ → ℕ → ℕ → Met
     met-from n i c = (probe t keys a first l (hash k) k n i c) .met
@@ -126,9 +130,11 @@ module _ {t : List ℕ} {first l : ℕ} {hash adr : List ℕ → ℕ} {g : Names
     probe-finds : (n i c : ℕ) → i < l → Reached g l k n i → met-from n i c ≡ Standing (adr k)
     probe-finds zero i c h r = absurd r
     probe-finds (suc n) i c h (inl e) = met-turn n i c (Same (adr k)) (seen-same T keys a R k i e)
-    probe-finds (suc n) i c h (inr r) = go (decide-name (r .0 .0) k) (probe-finds n (nextBucket l i) (c + 1) (next-below l i h) (r .1))
+    probe-finds (suc n) i c h (inr r) =
+        go (decide-name (r .0 .0) k) (probe-finds n (nextBucket l i) (c + 1) (next-below l i h) (r .1))
       where
-        go : Dec (r .0 .0 ≡ k) → met-from n (nextBucket l i) (c + 1) ≡ Standing (adr k) → met-from (suc n) i c ≡ Standing (adr k)
+        go : Dec (r .0 .0 ≡ k) → met-from n (nextBucket l i) (c + 1) ≡ Standing (adr k)
+            → met-from (suc n) i c ≡ Standing (adr k)
         go (yes p) ih = met-turn n i c (Same (adr k)) (seen-same T keys a R k i (renamed (r .0 .1) p))
         go (no p) ih = met-turn n i c Other (seen-other T keys a R k (r .0 .0) i (r .0 .1) p) ∙ ih
 
@@ -147,11 +153,13 @@ module _ {t : List ℕ} {first l : ℕ} {hash adr : List ℕ → ℕ} {g : Names
 
     -- a name of the table is found, at its record
     pub finds : Member k g → (lookup t keys a first l (hash k) k) .met ≡ Standing (adr k)
-    finds m = met-lookup ∙ probe-finds l (startOf l (hash k)) 0 (start-below l (hash k) (T .some-bucket)) (T .reachable k m)
+    finds m =
+        met-lookup ∙ probe-finds l (startOf l (hash k)) 0 (start-below l (hash k) (T .some-bucket)) (T .reachable k m)
 
     -- any other name is not: the lookup ends at an empty bucket, or after a lap round a full table
     pub misses : (Member k g → ⊥)
-        → ((lookup t keys a first l (hash k) k) .met ≡ Empty) ⊎ (((lookup t keys a first l (hash k) k) .met ≡ Lap) × (l ≤ occupied g))
+        → ((lookup t keys a first l (hash k) k) .met ≡ Empty) ⊎
+        (((lookup t keys a first l (hash k) k) .met ≡ Lap) × (l ≤ occupied g))
     misses f =
         let b : startOf l (hash k) < l = start-below l (hash k) (T .some-bucket) in
         ⊎-elim (λ e. inl (met-lookup ∙ e))
@@ -165,18 +173,25 @@ module _ {t : List ℕ} {first l : ℕ} {hash adr : List ℕ → ℕ} {g : Names
 
   probe-looks : (h : ℕ) (k : List ℕ) (n i c : ℕ) → i < l → Looks h k n i c
   probe-looks h k zero i c b = (0, omega arith, tt, rw (probe-end t keys a first l h k i c) (omega arith))
-  probe-looks h k (suc n) i c b = go (nameAt g i) refl (seenAt t keys a (first + i) h k) refl (probe-looks h k n (nextBucket l i) (c + 1) (next-below l i b))
+  probe-looks h k (suc n) i c b =
+      go (nameAt g i) refl (seenAt t keys a (first + i) h k) refl
+      (probe-looks h k n (nextBucket l i) (c + 1) (next-below l i b))
     where
       ends : (x : Met) → probe t keys a first l h k (suc n) i c ≡ walked x (c + 1) → Looks h k (suc n) i c
       ends x e = (0, omega arith, tt, rw e (omega arith))
 
-      go : (o : Option (List ℕ)) → nameAt g i ≡ o → (s : Seen) → seenAt t keys a (first + i) h k ≡ s → Looks h k n (nextBucket l i) (c + 1) → Looks h k (suc n) i c
+      go : (o : Option (List ℕ)) → nameAt g i ≡ o → (s : Seen) → seenAt t keys a (first + i) h k ≡ s
+          → Looks h k n (nextBucket l i) (c + 1) → Looks h k (suc n) i c
       go none e s q r = ends Empty (probe-turn t keys a first l h k n i c Nothing (seen-empty T keys a h k i b e))
       go (some y) e Nothing q r = ends Empty (probe-turn t keys a first l h k n i c Nothing q)
       go (some y) e (Same at) q r = ends (Standing at) (probe-turn t keys a first l h k n i c (Same at) q)
       go (some y) e Broken q r = ends Damaged (probe-turn t keys a first l h k n i c Broken q)
-      go (some y) e Other q r =
-          (suc (r .0), omega (arith, r .1), ((y, e), r .2), rw (probe-turn t keys a first l h k n i c Other q) (omega (arith, r .3)))
+      go (some y) e Other q r = (
+        suc (r .0),
+        omega (arith, r .1),
+        ((y, e), r .2),
+        rw (probe-turn t keys a first l h k n i c Other q) (omega (arith, r .3)),
+      )
 
   -- at most one more than names stand
   pub looks-few : (h : ℕ) (k : List ℕ) → (lookup t keys a first l h k) .looked ≤ occupied g + 1

@@ -1,4 +1,5 @@
--- A walk round the table, what it has met when it has met no empty bucket, and how many names that are. Assumes nothing.
+-- A walk round the table, what it has met when it has met no empty bucket, and how many names that are. Assumes
+-- nothing.
 use Prim.Native.Nat.{ℕ, zero, suc, _+_, _-_, _≤_, _<_}
 use mathlib.Core.Path.{_≡_, refl, sym, ap, _∙_, subst}
 use mathlib.Core.Logic.{_⊎_, inl, inr}
@@ -73,7 +74,8 @@ covered g l zero i j h k a (inr w) = absurd (omega arith)
 covered g l (suc n) i j h k a w =
     go (ℕ-discrete i j) (next-cases l i h) w (covered g l n (nextBucket l i) j (next-below l i h) k (a .1))
   where
-    go : Dec (i ≡ j) → ((i + 1 ≡ l) × (nextBucket l i ≡ 0)) ⊎ ((i + 1 < l) × (nextBucket l i ≡ i + 1)) → Ahead l (suc n) i j
+    go : Dec (i ≡ j) → ((i + 1 ≡ l) × (nextBucket l i ≡ 0)) ⊎ ((i + 1 < l) × (nextBucket l i ≡ i + 1))
+        → Ahead l (suc n) i j
         → (Ahead l n (nextBucket l i) j → Taken g j) → Taken g j
     go (yes e) c w f = subst (Taken g) e (a .0)
     go (no e) (inl c) (inl w) f = absurd (omega (arith, c .0))
@@ -90,7 +92,11 @@ taken-count g l n i e h k a = go (decLe (i + n) l)
 
     go : Dec (i + n ≤ l) → n ≤ occupied g
     go (yes p) =
-        omega (arith, occupied-run g i n (omega arith) (λ j q r. taken j (omega arith) (inl (q, r))), occupied-part g (i + n))
+        omega (
+          arith,
+          occupied-run g i n (omega arith) (λ j q r. taken j (omega arith) (inl (q, r))),
+          occupied-part g (i + n),
+        )
     go (no p) =
         let m : ℕ = i + n - l in
         let front : occupied (take 0 g) + m ≤ occupied (take (0 + m) g) =
@@ -117,16 +123,19 @@ module _ (g : Names) (f : ℕ) (k : List ℕ) (empty : nameAt g f ≡ none) wher
   fill-reached l (suc n) i y (inr r) = inr (fill-taken i (r .0), fill-reached l n (nextBucket l i) y (r .1))
 
   -- and what stands is the new name at its bucket, or stood before
-  pub fill-only : (i : ℕ) (y : List ℕ) → f < length g → nameAt (set g f (some k)) i ≡ some y → ((y ≡ k) × (i ≡ f)) ⊎ (nameAt g i ≡ some y)
+  pub fill-only : (i : ℕ) (y : List ℕ) → f < length g → nameAt (set g f (some k)) i ≡ some y
+      → ((y ≡ k) × (i ≡ f)) ⊎ (nameAt g i ≡ some y)
   fill-only i y h e = go (ℕ-discrete i f)
     where
       go : Dec (i ≡ f) → ((y ≡ k) × (i ≡ f)) ⊎ (nameAt g i ≡ some y)
       go (yes p) =
-          let s : nameAt (set g f (some k)) i ≡ some k = ap (nameAt (set g f (some k))) p ∙ getD-set-same g f (some k) none h in
+          let s : nameAt (set g f (some k)) i ≡ some k =
+          ap (nameAt (set g f (some k))) p ∙ getD-set-same g f (some k) none h in
           inl ((cc), p)
       go (no p) = inr (sym (getD-set-other g f i (some k) none p) ∙ e)
 
-pub fill-count : (g : Names) (f : ℕ) (k : List ℕ) → nameAt g f ≡ none → f < length g → occupied (set g f (some k)) ≡ suc (occupied g)
+pub fill-count : (g : Names) (f : ℕ) (k : List ℕ) → nameAt g f ≡ none → f < length g
+    → occupied (set g f (some k)) ≡ suc (occupied g)
 fill-count [] f k e h = absurd (omega arith)
 fill-count (none ∷ g) zero k e h = refl
 fill-count (some y ∷ g) zero k e h = clash e refl

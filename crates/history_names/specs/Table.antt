@@ -11,7 +11,8 @@ use lib.ListN.{length, getD}
 use Rattle.limits.specs.Limits.{nullAddress}
 use Rattle.memory_arena.specs.declared.Arena.{Arena}
 use Rattle.shared_arena_hashmap.specs.Buckets.{addressAt, hashAt}
-use Rattle.shared_arena_hashmap.specs.Probe.{goodRecord, keyAt, startOf, nextBucket}
+use Rattle.records.specs.Record.{goodRecord, keyAt}
+use Rattle.shared_arena_hashmap.specs.Probe.{startOf, nextBucket}
 use Rattle.shared_arena_hashmap.specs.Grow.{freeOf, entered, grown}
 
 -- a bucket each, its name or none

@@ -4,4 +4,4 @@
 // It has no function. `specs/Table.antt` says what it is for words to be such a table, and what entering and growing
 // leave; `specs/Listing.antt` what a listing collects; `proofs/` has the theorems, over the definitions that
 // shared_arena_hashmap's contracts cite. The hash is any function of the name: names with equal hashes are told apart
-// by their key bytes. It uses limits, numbers, spans, fastcmp, memory_arena and shared_arena_hashmap.
+// by their key bytes. It uses limits, numbers, spans, fastcmp, memory_arena and records, shared_arena_hashmap.

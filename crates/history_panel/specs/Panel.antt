@@ -23,6 +23,7 @@ pub record PanelReads (w : World) (steps : List Step) (name : List ℕ) : Type 0
   -- pieces of any sizes, asked for before, between and after the calls, that joined are the whole lane: however these
   -- bytes are cut into what the number reader is fed, it gives out those numbers, and nothing is held at the end
   pub fed : (ts : List Turn) (ps : List Piece) (p : Piece) (last : Bool) → callsIn ts ≡ map callOf steps
-      → gathered name ts w [] ≡ laneOf (joined name (map callOf steps) w) → bytesOf ps ++ p .bytes ≡ gathered name ts w []
+      → gathered name ts w [] ≡ laneOf (joined name (map callOf steps) w)
+      → bytesOf ps ++ p .bytes ≡ gathered name ts w []
       → length (gathered name ts w []) ≤ fedLimit → EachHasPlaces ps → HasPlaces p
       → callsOf fresh ps p last ≡ got numbers (goesOn (holding [] (length (gathered name ts w []))))

@@ -12,9 +12,9 @@ use borrow.Author.Tests.{leb-true, leb-false}
 use Rattle.fastcmp.specs.Equal.{equalBytes}
 use Rattle.spans.specs.Span.{readSpan, overwrite}
 use Rattle.spans.proofs.Laws.{read-written}
-use Rattle.store.specs.declared.Lookup.the-variants.{Missing, Failed}
-use Rattle.store.specs.Name.{nameLimitOf}
-use Rattle.store.specs.Look.{lookupOf}
+use Rattle.store_look.specs.declared.Lookup.the-variants.{Missing, Failed}
+use Rattle.store_state.specs.Name.{nameLimitOf}
+use Rattle.store_look.specs.Look.{lookupOf}
 use Rattle.lane_pieces.specs.declared.Pieced.the-variants.{Given, Refused}
 use Rattle.lane_pieces.specs.Piece.{Out, out, pieceOf}
 use Rattle.lane_pieces.proofs.Pieces.{piece-looked}

@@ -6,7 +6,7 @@ use mathlib.Core.Option.{none, some}
 use mathlib.Core.List.{List, [], _++_}
 use lib.ListN.{length, take}
 use Rattle.spans.specs.Span.{readSpan, overwrite}
-use Rattle.store.specs.Name.{nameLimitOf}
+use Rattle.store_state.specs.Name.{nameLimitOf}
 use Rattle.lane_pieces.specs.declared.Pieced.the-variants.{Absent, Given, Refused}
 use Rattle.lane_pieces.specs.Piece.{out, pieceOf}
 use Rattle.history.specs.History.{World, Call, play, joined}

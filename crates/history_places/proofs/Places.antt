@@ -13,17 +13,19 @@ use Rattle.numbers.proofs.Tests.{both}
 use Rattle.spans.specs.Span.{readSpan, overwrite}
 use Rattle.spans.proofs.Laws.{length-overwrite}
 use Rattle.fastcmp.specs.Equal.{equalBytes}
-use Rattle.expull.specs.declared.Header.{Header}
-use Rattle.expull.specs.Header.{blockCount, fullBytes}
-use Rattle.expull.specs.Blocks.{blockPlace, blockLength, goodBlocks}
-use Rattle.expull.proofs.Laws.Blocks.{blocks-fewer, find-at}
-use Rattle.store.specs.declared.Lookup.{Lookup}
-use Rattle.store.specs.declared.Lookup.the-variants.{At, Missing, Failed}
-use Rattle.store.specs.declared.Answer.the-variants.{Found}
-use Rattle.store.specs.declared.Outcome.the-variants.{Block}
-use Rattle.store.specs.Name.{nameLimitOf}
-use Rattle.store.specs.Look.{lookupOf, headerOf, headerSound, blocksSound, onBlock, findBlockOf}
-use Rattle.store.proofs.Found.{Headed, head-found, head-sound, block-at, block-found}
+use Rattle.expull_header.specs.declared.Header.{Header}
+use Rattle.expull_header.specs.Header.{blockCount, fullBytes}
+use Rattle.expull_walk.specs.Blocks.{blockPlace, blockLength, goodBlocks}
+use Rattle.expull_walk.proofs.Laws.{blocks-fewer, find-at}
+use Rattle.store_look.specs.declared.Lookup.{Lookup}
+use Rattle.store_look.specs.declared.Lookup.the-variants.{At, Missing, Failed}
+use Rattle.store_look.specs.declared.Answer.the-variants.{Found}
+use Rattle.store_look.specs.declared.Outcome.the-variants.{Block}
+use Rattle.store_state.specs.Name.{nameLimitOf}
+use Rattle.records.specs.Record.{headerOf, headerSound}
+use Rattle.store_look.specs.Look.{lookupOf, blocksSound, onBlock, findBlockOf}
+use Rattle.records.proofs.Laws.{Headed, head-found, head-sound}
+use Rattle.store_look.proofs.Found.{block-at, block-found}
 use Rattle.lane_pieces.specs.declared.Pieced.{Pieced}
 use Rattle.lane_pieces.specs.Piece.{Out as Piece·Out, pieceOf}
 use Rattle.lane_pieces.proofs.Places.{full-more-blocks, length-held}

@@ -11,9 +11,10 @@ use lib.ListN.{length}
 use lib.IntN.{ℤ, pos}
 use borrow.Author.Tests.{le-leb, lt-leb, ltb-true, ltb-false}
 use Rattle.limits.specs.Refusals.{unvinting, refusalNumbers, isAmong, numberIn}
-use Rattle.expull.specs.Blocks.{laneBytes}
-use Rattle.store.specs.Name.{nameLimitOf}
-use Rattle.store.specs.Look.{headerOf, blocksSound}
+use Rattle.expull_walk.specs.Blocks.{laneBytes}
+use Rattle.store_state.specs.Name.{nameLimitOf}
+use Rattle.records.specs.Record.{headerOf}
+use Rattle.store_look.specs.Look.{blocksSound}
 use Rattle.reading_run.specs.Readings.{readingBytes, readingsBytes, AllSigned, Split, split, vintsOf, readingsIn}
 use Rattle.reading_run.proofs.Back.{storedFrom, written-splits, stored-readings, stored-count}
 use Rattle.reading_run.proofs.Split.{among-behind, refusals-listed}

@@ -5,7 +5,7 @@ use mathlib.Core.List.{List, [], _∷_}
 use lib.IntN.{ℤ, pos, negsuc}
 use Rattle.vint.specs.Vint.{vintBytes}
 use Rattle.shared_arena_hashmap.specs.Buckets.{cleared}
-use Rattle.store.specs.Append.{appendOf}
+use Rattle.store_append.specs.Append.{appendOf}
 use Rattle.history.specs.History.{looksUp}
 use Rattle.history.specs.Cases.{lane-a, start}
 use Rattle.history_readings.specs.Steps.{Step, reading, call, aReading, acceptedFor, readingsAmong}

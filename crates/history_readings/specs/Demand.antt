@@ -9,7 +9,7 @@ use mathlib.Core.List.{List, [], _∷_, map}
 use lib.ListN.{length}
 use lib.IntN.{ℤ, pos}
 use Rattle.limits.specs.Refusals.{numberIn}
-use Rattle.store.specs.Name.{nameLimitOf}
+use Rattle.store_state.specs.Name.{nameLimitOf}
 use Rattle.reading_run.specs.Readings.{readingBytes, vintsOf}
 use Rattle.readings.specs.declared.Recalled.the-variants.{Readings, Absent, Refused}
 use Rattle.readings.specs.Readings.{Out, out, atFront, onSplit, readingsOf, appendReadingOf}
@@ -53,8 +53,8 @@ pub record ReadingsDemand (w : World) (steps : List Step) : Type 0 where
   pub never-2-or-4 : (name : List ℕ) (output : List ℤ)
       → (numberIn (saidRecalled (recalledIn (play (map callOf steps) w) name output .answer)) ≢ 2)
       × (numberIn (saidRecalled (recalledIn (play (map callOf steps) w) name output .answer)) ≢ 4)
-  -- "For such lanes demand 3 is read over readings as well as over bytes": a reading is one append of a history, so each
-  -- sentence of demand 3 about appends holds of readings, refusals exact among them
+  -- "For such lanes demand 3 is read over readings as well as over bytes": a reading is one append of a history, so
+  -- each sentence of demand 3 about appends holds of readings, refusals exact among them
   pub one-append : (name : List ℕ) (last new : ℤ)
       → appendReadingOf (play (map callOf steps) w .state) (play (map callOf steps) w .memory) name last new
       ≡ appendIn (play (map callOf steps) w) name (readingBytes last new)

@@ -10,7 +10,8 @@ use Rattle.signed.specs.Signed.{Signed32}
 use Rattle.reading_run.specs.Readings.{readingBytes}
 use Rattle.history.specs.History.{World, Call, appends, after, Entry, logged}
 
--- RULES AB8. A step of a history: a reading appended to a name, with the last one as the caller hands it in; or any call
+-- RULES AB8. A step of a history: a reading appended to a name, with the last one as the caller hands it in; or any
+-- call
 pub data Step : Type 0 where
   reading : List ℕ → ℤ → ℤ → Step
   call : Call → Step

@@ -10,15 +10,15 @@ use Rattle.shared_arena_hashmap.specs.declared.Walk.{Walk}
 use Rattle.shared_arena_hashmap.specs.Probe.{startOf, probe, lookup}
 use Rattle.shared_arena_hashmap.proofs.Room.{start-below}
 use Rattle.shared_arena_hashmap.proofs.Laws.{power-facts}
-use Rattle.store.specs.declared.State.{State}
-use Rattle.store.specs.declared.Name.{Name}
-use Rattle.store.specs.declared.Name.the-variants.{TooLong, Nameless, Proper}
-use Rattle.store.specs.State.{firstOf}
-use Rattle.store.specs.Name.{nameKind, byKind}
-use Rattle.store.specs.Look.{Lent, checked, walkOf, lookupOf, lookedOf, onMet}
-use Rattle.store.proofs.Found.{lookup-met, looked-2, looked-3, looked-nameless, looked-walk}
-use Rattle.store.proofs.Guard.{kind-nameless}
-use Rattle.store.proofs.Whole.{whole-facts}
+use Rattle.store_state.specs.declared.State.{State}
+use Rattle.store_state.specs.declared.Name.{Name}
+use Rattle.store_state.specs.declared.Name.the-variants.{TooLong, Nameless, Proper}
+use Rattle.store_state.specs.State.{firstOf}
+use Rattle.store_state.specs.Name.{nameKind, byKind}
+use Rattle.store_look.specs.Look.{Lent, checked, walkOf, lookupOf, lookedOf, onMet}
+use Rattle.store_look.proofs.Found.{lookup-met, looked-2, looked-3, looked-nameless, looked-walk}
+use Rattle.store_state.proofs.Guard.{kind-nameless}
+use Rattle.store_state.proofs.Whole.{whole-facts}
 use Rattle.history.specs.History.{World, Born, Call, play}
 use Rattle.history.proofs.Demand.{walk-few}
 use Rattle.history_walks.specs.Walks.{seenIn, lastMet, WalkTold, Walks, WalksFew}
@@ -36,7 +36,8 @@ went st m name h = go (st .buckets) refl h
 
     go : (n : ℕ) → st .buckets ≡ n → 0 < n
         → Went (m .table) (m .keys) (st .«key_arena») (firstOf st) (st .buckets) hash name
-        n 0 (probe (m .table) (m .keys) (st .«key_arena») (firstOf st) (st .buckets) hash name n (startOf (st .buckets) hash) 0)
+        n 0 (probe (m .table) (m .keys) (st .«key_arena») (firstOf st) (st .buckets) hash name n
+        (startOf (st .buckets) hash) 0)
     go zero e h = absurd (omega arith)
     go (suc n) e h =
         probe-went (m .table) (m .keys) (st .«key_arena») (firstOf st) (st .buckets) hash name n
@@ -77,7 +78,8 @@ walks = record {
 -- RULES Y14.
 pub walks-few : (capacity seed size : ℕ) (table keys lists : List ℕ) (w : World)
     → Born capacity seed size table keys lists w → (calls : List Call) (name : List ℕ) → WalksFew w calls name
-walks-few capacity seed size table keys lists w B calls name = record { few = go (checked st m) refl (nameKind st (length name)) refl }
+walks-few capacity seed size table keys lists w B calls name =
+    record { few = go (checked st m) refl (nameKind st (length name)) refl }
   where
     st : State
     st = play calls w .state

@@ -11,11 +11,11 @@ use Rattle.shared_arena_hashmap.specs.declared.Seen.the-variants.{Nothing, Same
 use Rattle.shared_arena_hashmap.specs.declared.Met.{Met}
 use Rattle.shared_arena_hashmap.specs.declared.Met.the-variants.{Empty, Standing, Damaged, Lap}
 use Rattle.shared_arena_hashmap.specs.Probe.{seenAt}
-use Rattle.store.specs.declared.State.{State}
-use Rattle.store.specs.declared.Name.the-variants.{TooLong, Proper}
-use Rattle.store.specs.State.{firstOf}
-use Rattle.store.specs.Name.{nameKind}
-use Rattle.store.specs.Look.{Lent, checked, inOrder, onMet, lookupOf, lookedOf}
+use Rattle.store_state.specs.declared.State.{State}
+use Rattle.store_state.specs.declared.Name.the-variants.{TooLong, Proper}
+use Rattle.store_state.specs.State.{firstOf}
+use Rattle.store_state.specs.Name.{nameKind}
+use Rattle.store_look.specs.Look.{Lent, checked, inOrder, onMet, lookupOf, lookedOf}
 use Rattle.history.specs.History.{World, Call, play}
 
 -- RULES N6. What a name's lookup sees in place k of its probe order, counted from 1.

@@ -9,15 +9,17 @@ use borrow.Author.Tests.{eqb-true}
 use Rattle.limits.specs.Refusals.{listingBuckets, appending, joining, refusalNumbers, isAmong, permitted}
 use Rattle.numbers.proofs.Tests.{both}
 use Rattle.spans.specs.Span.{overwrite}
-use Rattle.shared_arena_hashmap.specs.Probe.{keyLength}
-use Rattle.expull.specs.Header.{laneLength}
-use Rattle.store.specs.declared.Appended.{Appended}
-use Rattle.store.specs.declared.Appended.the-variants.{Accepted, Declined}
-use Rattle.store.specs.declared.Listed.{Listed}
-use Rattle.store.specs.declared.Listed.the-variants.{Bucket, NoMore, Stopped}
-use Rattle.store.specs.Said.{saidAppended, saidListed}
-use Rattle.store.specs.Look.{checked, headerOf, blocksSound, nextOf}
-use Rattle.store.proofs.Fair.{fair-append, fair-next}
+use Rattle.records.specs.Record.{keyLength, headerOf}
+use Rattle.expull_header.specs.Header.{laneLength}
+use Rattle.store_append.specs.declared.Appended.{Appended}
+use Rattle.store_append.specs.declared.Appended.the-variants.{Accepted, Declined}
+use Rattle.store_look.specs.declared.Listed.{Listed}
+use Rattle.store_look.specs.declared.Listed.the-variants.{Bucket, NoMore, Stopped}
+use Rattle.store_look.specs.Said.{saidListed}
+use Rattle.store_append.specs.Said.{saidAppended}
+use Rattle.store_look.specs.Look.{checked, blocksSound, nextOf}
+use Rattle.store_look.proofs.Fair.{fair-next}
+use Rattle.store_append.proofs.Fair.{fair-append}
 use Rattle.report_lanes.specs.declared.NextLane.{NextLane}
 use Rattle.report_lanes.specs.declared.NextLane.the-variants.{Lane as Met·Lane, NoLane, Halt}
 use Rattle.report_lanes.specs.Measure.{metOf, onNextLane, nextLaneOf}

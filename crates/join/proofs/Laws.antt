@@ -11,26 +11,25 @@ use borrow.Author.Tests.{le-leb, lt-leb}
 use Rattle.limits.specs.Limits.{bucketLimit}
 use Rattle.spans.specs.Span.{readSpan, overwrite}
 use Rattle.spans.proofs.Laws.{read-written}
-use Rattle.store.specs.declared.State.{State}
-use Rattle.store.specs.declared.Answer.{Answer}
-use Rattle.store.specs.declared.Appended.{Appended}
-use Rattle.store.specs.declared.Appended.the-variants.{Accepted, Declined}
-use Rattle.store.specs.Look.{Lent, checked, reading, readAt}
-use Rattle.store.specs.Append.{Out as Append·Out, out as Append·out, appendOf}
-use Rattle.store.proofs.Whole.{whole-facts, buckets-few}
+use Rattle.store_state.specs.declared.State.{State}
+use Rattle.store_look.specs.declared.Answer.{Answer}
+use Rattle.store_append.specs.declared.Appended.{Appended}
+use Rattle.store_append.specs.declared.Appended.the-variants.{Accepted, Declined}
+use Rattle.store_look.specs.Look.{Lent, checked, reading, readAt}
+use Rattle.store_append.specs.Append.{Out as Append·Out, out as Append·out, appendOf}
+use Rattle.store_state.proofs.Whole.{whole-facts, buckets-few}
 use Rattle.report_text.specs.Text.{Lane}
 use Rattle.report_lanes.specs.declared.NextLane.{NextLane}
 use Rattle.report_lanes.specs.declared.NextLane.the-variants.{Lane as Met·Lane, NoLane, Halt}
 use Rattle.report_lanes.specs.Lanes.{laneAt}
 use Rattle.report_lanes.specs.Measure.{nextLaneOf}
-use Rattle.store.proofs.Appended.{the-type as append-type}
+use Rattle.store_append.proofs.Appended.{the-type as append-type}
 use Rattle.report_lanes.proofs.NextLane.{the-type}
 use Rattle.report_lanes.proofs.Measuring.{turn}
 use Rattle.report.proofs.Written.{standing-lane, standing-read, lane-key, lane-own}
 use Rattle.history.specs.History.{World}
 use Rattle.join.specs.declared.Joined.the-variants.{Whole}
-use Rattle.join.specs.Join.{store, lane, toldOn, toldFrom, toldBy, out, whole, stopped}
-use Rattle.join.specs.Join.{onAppended, joinLanes}
+use Rattle.join.specs.Join.{store, lane, toldOn, toldFrom, toldBy, out, whole, stopped, onAppended, joinLanes}
 use Rattle.join.specs.Bring.{brought, bringOf, Ready, overOf, haltedOf}
 
 -- ---- one lane

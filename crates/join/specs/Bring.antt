@@ -3,16 +3,16 @@ use Prim.Native.Nat.{ℕ, _≤_}
 use mathlib.Core.Path.{_≡_}
 use mathlib.Core.List.{List}
 use Rattle.spans.specs.Span.{overwrite}
-use Rattle.shared_arena_hashmap.specs.Probe.{keyLength}
-use Rattle.store.specs.declared.Appended.{Appended}
-use Rattle.store.specs.declared.Appended.the-variants.{Accepted, Declined}
-use Rattle.store.specs.Append.{Out as Append·Out, appendOf}
+use Rattle.records.specs.Record.{keyLength}
+use Rattle.store_append.specs.declared.Appended.{Appended}
+use Rattle.store_append.specs.declared.Appended.the-variants.{Accepted, Declined}
+use Rattle.store_append.specs.Append.{Out as Append·Out, appendOf}
 use Rattle.report_text.specs.Text.{Lane}
 use Rattle.report_lanes.specs.declared.NextLane.{NextLane}
 use Rattle.report_lanes.specs.declared.NextLane.the-variants.{Lane as Met·Lane, NoLane, Halt}
 use Rattle.report_lanes.specs.Measure.{Standing}
 use Rattle.history.specs.History.{World, appendIn}
-use Rattle.store.specs.declared.State.{State}
+use Rattle.store_state.specs.declared.State.{State}
 use Rattle.join.specs.declared.Joined.{Joined}
 use Rattle.join.specs.declared.Joined.the-variants.{Whole, Halted}
 

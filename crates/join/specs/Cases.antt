@@ -8,10 +8,10 @@ use lib.ListN.{replicate}
 use Rattle.limits.specs.Refusals.{Said, answered, refused, lanesJoined}
 use Rattle.spans.specs.Span.{overwrite}
 use Rattle.shared_arena_hashmap.specs.Buckets.{cleared}
-use Rattle.expull.specs.Header.{fresh, headerBytes}
-use Rattle.store.specs.Create.{freshState}
-use Rattle.store.specs.Look.{lent}
-use Rattle.store.specs.Append.{appendOf}
+use Rattle.expull_header.specs.Header.{fresh, headerBytes}
+use Rattle.store_create.specs.Create.{freshState}
+use Rattle.store_look.specs.Look.{lent}
+use Rattle.store_append.specs.Append.{appendOf}
 use Rattle.history.specs.History.{World, appends, play}
 use Rattle.join.specs.Join.{store, Out, joinOf}
 use Rattle.join.specs.Said.{saidJoined}

@@ -8,12 +8,12 @@ use mathlib.Core.List.{List, [], _∷_}
 use lib.Dec.{leb}
 use lib.ListN.{length, take}
 use Rattle.spans.specs.Span.{overwrite}
-use Rattle.store.specs.declared.State.{State}
-use Rattle.store.specs.declared.Appended.{Appended}
-use Rattle.store.specs.declared.Appended.the-variants.{Accepted, Declined}
-use Rattle.store.specs.State.{wholeState}
-use Rattle.store.specs.Look.{Lent, checked}
-use Rattle.store.specs.Append.{appendOf}
+use Rattle.store_state.specs.declared.State.{State}
+use Rattle.store_append.specs.declared.Appended.{Appended}
+use Rattle.store_append.specs.declared.Appended.the-variants.{Accepted, Declined}
+use Rattle.store_state.specs.State.{wholeState}
+use Rattle.store_look.specs.Look.{Lent, checked}
+use Rattle.store_append.specs.Append.{appendOf}
 use Rattle.report_text.specs.Text.{Lane}
 use Rattle.report_lanes.specs.Lanes.{laneAt}
 use Rattle.report_lanes.specs.declared.NextLane.{NextLane}

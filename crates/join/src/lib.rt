@@ -3,17 +3,17 @@
 // It promises, for any two states, any lent memory and any scratch: each lane of the second store, in listing order and
 // through its own record, is read into the scratch and appended to the first, until a refusal; the answer tells how
 // many went across whole. specs/Join.antt is that: one equation for the state, the first store's memory and the
-// scratch. The second store's memory is lent to be read only. It uses store and report_lanes, and history for the words
-// of its definition.
+// scratch. The second store's memory is lent to be read only. It uses store_state, store_create, store_look,
+// store_append, report_lanes, and history for the words of its definition.
 use report_lanes::NextLane;
-use store::Appended;
-use store::State;
+use store_append::Appended;
+use store_state::State;
 ghost use mathlib.Core.Path.{_≡_};
 ghost use mathlib.Core.Bool.{true};
 ghost use lib.ListN.{length};
 ghost use Rattle.limits.specs.Refusals.{joining, permitted};
-ghost use Rattle.store.specs.Look.{lent, checked};
-ghost use Rattle.store.specs.Append.{out as Append·out};
+ghost use Rattle.store_look.specs.Look.{lent, checked};
+ghost use Rattle.store_append.specs.Append.{out as Append·out};
 ghost use Rattle.report_lanes.specs.Lanes.{laneAt};
 ghost use Rattle.join.specs.Join.{store, out, joinLanes, toldBy, joinOf};
 ghost use Rattle.join.specs.Bring.{brought, bringOf, Ready, overOf, haltedOf};
@@ -48,8 +48,8 @@ fn bring(
 {
     let from = (at as usize) + 2;
     let to = from + name;
-    store::look::read_at(st2, table2, keys2, lists2, at, scratch);
-    let told = store::write::append(st, table, keys, lists, &keys2[from..to], &scratch[0..n]);
+    store_look::lane::read_at(st2, table2, keys2, lists2, at, scratch);
+    let told = store_append::append(st, table, keys, lists, &keys2[from..to], &scratch[0..n]);
     let answer = told.answer;
     answer
 }
@@ -146,10 +146,10 @@ pub fn join(
         (store st2 (lent (now (table2 .entry)) (now (keys2 .entry)) (now (lists2 .entry)))) (now (scratch .entry)) ⌝ }
     ensures numbered { λ r. ⌜ permitted joining (saidJoined r) ≡ true ⌝ }
 {
-    if !store::check::is_whole_state(st, table.len(), keys.len(), lists.len()) {
+    if !store_state::is_whole_state(st, table.len(), keys.len(), lists.len()) {
         return Joined::Halted(st, 2, 0);
     }
-    if !store::check::is_whole_state(st2, table2.len(), keys2.len(), lists2.len()) {
+    if !store_state::is_whole_state(st2, table2.len(), keys2.len(), lists2.len()) {
         return Joined::Halted(st, 2, 0);
     }
     join_lanes(st, table, keys, lists, st2, table2, keys2, lists2, scratch)

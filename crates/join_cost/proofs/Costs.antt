@@ -10,12 +10,11 @@ use native.Mathlib.Omega.{arith}
 use lib.ListN.{length, take, drop, take-append-drop}
 use Rattle.fastcmp.specs.Equal.{equalBytes}
 use Rattle.fastcmp.proofs.Laws.{equal-refl}
-use Rattle.store.specs.declared.Appended.{Appended}
-use Rattle.store.specs.declared.Appended.the-variants.{Accepted, Declined}
+use Rattle.store_append.specs.declared.Appended.{Appended}
+use Rattle.store_append.specs.declared.Appended.the-variants.{Accepted, Declined}
 use Rattle.history_lanes.specs.Lane.{usedEnd}
-use Rattle.history.specs.History.{World, Call, appends, Born, appendIn, isAccepted, accepts, play, Entry, entry}
-use Rattle.history.specs.History.{logOf, askedFor, joined, among, bytesIn}
-use Rattle.history.specs.History.{acceptedBytes}
+use Rattle.history.specs.History.{World, Call, appends, Born, appendIn, isAccepted, accepts, play, Entry, entry, logOf}
+use Rattle.history.specs.History.{askedFor, joined, among, bytesIn, acceptedBytes}
 use Rattle.history.specs.Due.{due}
 use Rattle.history.specs.Promises.{listedNames}
 use Rattle.history.specs.Numbers.{appendedNumber}

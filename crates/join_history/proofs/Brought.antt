@@ -13,16 +13,15 @@ use borrow.Author.Tests.{leb-true, leb-false}
 use Rattle.limits.specs.Refusals.{appending, refusalNumbers, isAmong, permitted, numberIn}
 use Rattle.spans.specs.Span.{overwrite}
 use Rattle.spans.proofs.Laws.{length-overwrite}
-use Rattle.store.specs.declared.State.{State}
-use Rattle.store.specs.declared.Appended.{Appended}
-use Rattle.store.specs.declared.Appended.the-variants.{Accepted, Declined}
-use Rattle.store.specs.Said.{saidAppended}
-use Rattle.store.specs.Look.{checked}
-use Rattle.store.specs.Append.{declined}
-use Rattle.store.proofs.Fair.{fair-append}
+use Rattle.store_state.specs.declared.State.{State}
+use Rattle.store_append.specs.declared.Appended.{Appended}
+use Rattle.store_append.specs.declared.Appended.the-variants.{Accepted, Declined}
+use Rattle.store_append.specs.Said.{saidAppended}
+use Rattle.store_look.specs.Look.{checked}
+use Rattle.store_append.specs.Append.{declined}
+use Rattle.store_append.proofs.Fair.{fair-append}
 use Rattle.report_text.specs.Text.{Lane}
-use Rattle.history.specs.History.{World, appendIn, isAccepted, accepts, left, stateAfter, play}
-use Rattle.history.specs.History.{Entry, entry, logOf}
+use Rattle.history.specs.History.{World, appendIn, isAccepted, accepts, left, stateAfter, play, Entry, entry, logOf}
 use Rattle.join.specs.Join.{store, Told, lane, broken, toldBy, Out, stopped, onAppended, joinLanes, joinOf}
 use Rattle.join.specs.Join.{lanesIn, appendsOf}
 use Rattle.join.specs.Said.{saidJoined}

@@ -11,13 +11,13 @@ use lib.ListN.{length, take, drop}
 use lib.Seq.{take-all}
 use Rattle.fastcmp.specs.Equal.{equalBytes}
 use Rattle.fastcmp.proofs.Laws.{equal-true}
-use Rattle.shared_arena_hashmap.specs.Probe.{keyLength}
-use Rattle.expull.specs.Header.{laneLength}
-use Rattle.store.specs.declared.Listed.{Listed}
-use Rattle.store.specs.declared.Listed.the-variants.{Bucket, NoMore, Stopped}
-use Rattle.store.specs.Name.{nameLimitOf}
-use Rattle.store.specs.Look.{headerOf, blocksSound, nextOf}
-use Rattle.store.specs.Append.{Out as Append·Out}
+use Rattle.records.specs.Record.{keyLength, headerOf}
+use Rattle.expull_header.specs.Header.{laneLength}
+use Rattle.store_look.specs.declared.Listed.{Listed}
+use Rattle.store_look.specs.declared.Listed.the-variants.{Bucket, NoMore, Stopped}
+use Rattle.store_state.specs.Name.{nameLimitOf}
+use Rattle.store_look.specs.Look.{blocksSound, nextOf}
+use Rattle.store_append.specs.Append.{Out as Append·Out}
 use Rattle.history_names.specs.Listing.{times}
 use Rattle.history.specs.History.{World, Call, appends, Born, appendIn, play, Entry, entry, logOf, joinedOn, joinedIn}
 use Rattle.history.specs.History.{joined, isJoined, among}

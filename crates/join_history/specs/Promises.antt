@@ -11,10 +11,10 @@ use mathlib.Core.List.{List, [], _∷_, _++_, map}
 use lib.ListN.{length, take, drop}
 use Rattle.limits.specs.Refusals.{numberIn}
 use Rattle.spans.specs.Span.{overwrite}
-use Rattle.store.specs.declared.State.{State}
-use Rattle.store.specs.Name.{nameLimitOf}
-use Rattle.store.specs.Look.{checked}
-use Rattle.store.specs.Append.{declined}
+use Rattle.store_state.specs.declared.State.{State}
+use Rattle.store_state.specs.Name.{nameLimitOf}
+use Rattle.store_look.specs.Look.{checked}
+use Rattle.store_append.specs.Append.{declined}
 use Rattle.history.specs.History.{World, Call, appends, appendIn, play, Entry, entry, logOf, joinedOn, joined, among}
 use Rattle.history.specs.Due.{due}
 use Rattle.history.specs.Promises.{ReadsAs, listedNames}

@@ -9,14 +9,15 @@ use lib.Dec.{leb, eqb}
 use lib.ListN.{length}
 use Rattle.limits.specs.Refusals.{lookingUp, readingPiece, isAmong, refusalNumbers, permitted}
 use Rattle.memory_arena.specs.declared.Arena.{Arena}
-use Rattle.expull.specs.Header.{laneLength}
-use Rattle.expull.specs.Blocks.{goodBlocks}
-use Rattle.store.specs.declared.State.{State}
-use Rattle.store.specs.declared.Lookup.{Lookup}
-use Rattle.store.specs.declared.Lookup.the-variants.{At, Missing, Failed}
-use Rattle.store.specs.Look.{Lent, lookupOf, headerOf, headerSound}
-use Rattle.store.specs.Said.{saidLookup}
-use Rattle.store.proofs.Fair.{fair-lookup}
+use Rattle.expull_header.specs.Header.{laneLength}
+use Rattle.expull_walk.specs.Blocks.{goodBlocks}
+use Rattle.store_state.specs.declared.State.{State}
+use Rattle.store_look.specs.declared.Lookup.{Lookup}
+use Rattle.store_look.specs.declared.Lookup.the-variants.{At, Missing, Failed}
+use Rattle.records.specs.Record.{headerOf, headerSound}
+use Rattle.store_look.specs.Look.{Lent, lookupOf}
+use Rattle.store_look.specs.Said.{saidLookup}
+use Rattle.store_look.proofs.Fair.{fair-lookup}
 use Rattle.lane_pieces.specs.declared.Pieced.{Pieced}
 use Rattle.lane_pieces.specs.declared.Pieced.the-variants.{Absent, Given, Refused}
 use Rattle.lane_pieces.specs.Piece.{blocksMet, pieceLength, Out, out, pieceAt, onLookup, pieceOf}

@@ -18,7 +18,7 @@ use Rattle.memory_arena.specs.declared.Arena.{Arena}
 use Rattle.memory_arena.specs.Pages.{goodSpan}
 use Rattle.memory_arena.specs.Calls.{sensible}
 use Rattle.memory_arena.proofs.Laws.{good-in, sensible-facts}
-use Rattle.expull.specs.Header.{blockSize}
+use Rattle.expull_header.specs.Header.{blockSize}
 use Rattle.lane_pieces.specs.Onward.{nextPlace, goodOn, bytesOn, heldOn, lastOn, LieOn, Copyable}
 use Rattle.lane_pieces.proofs.Onward.{good-more, held-more, held-none, span-behind, span-in-front}
 

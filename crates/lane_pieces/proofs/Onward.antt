@@ -16,11 +16,11 @@ use Rattle.spans.proofs.Laws.{span-within}
 use Rattle.memory_arena.specs.declared.Arena.{Arena}
 use Rattle.memory_arena.specs.Pages.{goodSpan}
 use Rattle.memory_arena.specs.Calls.{sensible}
-use Rattle.expull.specs.declared.Header.{Header}
-use Rattle.expull.specs.Header.{blockSize, soundHeader, blockCount, fullBytes, laneLength}
-use Rattle.expull.specs.Blocks.{blockPlace, goodBlocks, fullBlocks, laneBytes}
-use Rattle.expull.proofs.Laws.Header.{full-more, length-parts, length-none, sound-facts}
-use Rattle.expull.proofs.Laws.Blocks.{goodBlock, blocks-more, blocks-fewer, length-full, lastOf}
+use Rattle.expull_header.specs.declared.Header.{Header}
+use Rattle.expull_header.specs.Header.{blockSize, soundHeader, blockCount, fullBytes, laneLength}
+use Rattle.expull_walk.specs.Blocks.{blockPlace, goodBlocks, fullBlocks, laneBytes}
+use Rattle.expull_header.proofs.Laws.{full-more, length-parts, length-none, sound-facts}
+use Rattle.expull_walk.proofs.Laws.{goodBlock, blocks-more, blocks-fewer, length-full, lastOf}
 use Rattle.lane_pieces.specs.Onward.{nextPlace, goodOn, bytesOn, heldOn}
 
 -- ---- one block more in front

@@ -14,27 +14,27 @@ use Rattle.numbers.proofs.Tests.{not-both}
 use Rattle.spans.specs.Span.{readSpan, overwrite}
 use Rattle.spans.proofs.Laws.{span-none, overwrite-none}
 use Rattle.memory_arena.specs.declared.Arena.{Arena}
-use Rattle.expull.specs.declared.Header.{Header}
-use Rattle.expull.specs.declared.Block.{Block}
-use Rattle.expull.specs.declared.Block.the-variants.{BlockAt}
-use Rattle.expull.proofs.Block.{the-type}
-use Rattle.expull.specs.declared.Walked.{Walked}
-use Rattle.expull.specs.declared.Walked.the-variants.{To, Stopped}
-use Rattle.expull.specs.Header.{blockCount, fullBytes, laneLength}
-use Rattle.expull.specs.Blocks.{blockPlace, goodBlocks, laneBytes, blockLength, blockOf}
-use Rattle.expull.proofs.Laws.Header.{full-more, length-most}
-use Rattle.expull.proofs.Laws.Blocks.{blocks-fewer, find-bad, find-at}
-use Rattle.store.specs.declared.State.{State}
-use Rattle.store.specs.declared.Lookup.{Lookup}
-use Rattle.store.specs.declared.Lookup.the-variants.{At, Missing, Failed}
-use Rattle.store.proofs.Lookup.{the-type as lookup-type}
-use Rattle.store.specs.Look.{Lent, lookupOf, headerSound}
-use Rattle.store.proofs.Found.{Headed}
+use Rattle.expull_header.specs.declared.Header.{Header}
+use Rattle.expull_walk.specs.declared.Block.{Block}
+use Rattle.expull_walk.specs.declared.Block.the-variants.{BlockAt}
+use Rattle.expull_walk.proofs.Block.{the-type}
+use Rattle.expull_walk.specs.declared.Walked.{Walked}
+use Rattle.expull_walk.specs.declared.Walked.the-variants.{To, Stopped}
+use Rattle.expull_header.specs.Header.{blockCount, fullBytes, laneLength}
+use Rattle.expull_walk.specs.Blocks.{blockPlace, goodBlocks, laneBytes, blockLength, blockOf}
+use Rattle.expull_header.proofs.Laws.{full-more, length-most}
+use Rattle.expull_walk.proofs.Laws.{blocks-fewer, find-bad, find-at}
+use Rattle.store_state.specs.declared.State.{State}
+use Rattle.store_look.specs.declared.Lookup.{Lookup}
+use Rattle.store_look.specs.declared.Lookup.the-variants.{At, Missing, Failed}
+use Rattle.store_look.proofs.Lookup.{the-type as lookup-type}
+use Rattle.records.specs.Record.{headerSound}
+use Rattle.store_look.specs.Look.{Lent, lookupOf}
+use Rattle.records.proofs.Laws.{Headed}
 use Rattle.lane_pieces.specs.declared.Pieced.the-variants.{Given, Refused}
 use Rattle.lane_pieces.specs.Piece.{blockHolding, blocksMet, pieceLength, Out, out, gives, pieceAt, notFound}
 use Rattle.lane_pieces.specs.Piece.{onLookup, pieceOf}
-use Rattle.lane_pieces.specs.Onward.{goodOn, bytesOn, lastOn, Copyable, Went, went, goneOn, Going}
-use Rattle.lane_pieces.specs.Onward.{Within, Put}
+use Rattle.lane_pieces.specs.Onward.{goodOn, bytesOn, lastOn, Copyable, Went, went, goneOn, Going, Within, Put}
 use Rattle.lane_pieces.proofs.Places.{full-high, holding, holding-most, holding-least, met-none, met-some}
 use Rattle.lane_pieces.proofs.Places.{met, length-held}
 use Rattle.lane_pieces.proofs.Onward.{good-on, held-on, lane-on}

@@ -7,11 +7,11 @@ use native.Mathlib.Omega.{arith}
 use lib.Dec.{eqb, ltb, lit≤}
 use borrow.Author.Tests.{ltb-true, ltb-false, lt-ltb, le-ltb, ne-eqb, eqb-true, eqb-false}
 use Rattle.limits.specs.Limits.{freshNumber}
-use Rattle.expull.specs.declared.Header.{Header}
-use Rattle.expull.specs.Header.{blockSize, soundHeader, blockCount, fullBytes, laneLength}
-use Rattle.expull.proofs.Laws.Header.{size-low, size-pos, full-more, full-closed-low, full-closed-high}
-use Rattle.expull.proofs.Laws.Header.{length-none, length-blocks}
-use Rattle.expull.proofs.Laws.Blocks.{full-within}
+use Rattle.expull_header.specs.declared.Header.{Header}
+use Rattle.expull_header.specs.Header.{blockSize, soundHeader, blockCount, fullBytes, laneLength}
+use Rattle.expull_header.proofs.Laws.{size-low, size-pos, full-more, full-closed-low, full-closed-high}
+use Rattle.expull_header.proofs.Laws.{length-none, length-blocks}
+use Rattle.expull_walk.proofs.Laws.{full-within}
 use Rattle.lane_pieces.specs.Piece.{blockFrom, blockHolding, blocksMet}
 
 -- ---- what blocks hold

@@ -1,6 +1,6 @@
 -- The value of `Promises`. Assumes nothing.
 use Rattle.limits.specs.Refusals.{one-outcome}
-use Rattle.store.specs.declared.Lookup.the-variants.{Missing}
+use Rattle.store_look.specs.declared.Lookup.the-variants.{Missing}
 use Rattle.lane_pieces.specs.Piece.{out}
 use Rattle.lane_pieces.specs.Promises.{Promises}
 use Rattle.lane_pieces.proofs.Fair.{fair-piece}

@@ -11,19 +11,20 @@ use borrow.Author.Tests.{leb-true}
 use Rattle.numbers.proofs.Tests.{both}
 use Rattle.spans.specs.Span.{readSpan, overwrite}
 use Rattle.spans.proofs.Laws.{read-written, span-within}
-use Rattle.expull.specs.declared.Header.{Header}
-use Rattle.expull.specs.Header.{blockCount, laneLength}
-use Rattle.expull.specs.Blocks.{goodBlocks, laneBytes}
-use Rattle.expull.proofs.Laws.Blocks.{blocks-fewer, lane-bytes-length}
-use Rattle.store.specs.declared.State.{State}
-use Rattle.store.specs.declared.Lookup.{Lookup}
-use Rattle.store.specs.declared.Lookup.the-variants.{At, Missing, Failed}
-use Rattle.store.specs.declared.Answer.the-variants.{Found, Refused as Read·Refused}
-use Rattle.store.specs.declared.Outcome.the-variants.{Reading}
-use Rattle.store.specs.Look.{Lent, lookupOf, headerOf, headerSound, blocksSound, Read, reading, readAt, readOf}
-use Rattle.store.specs.Look.{onLookupRead}
-use Rattle.store.proofs.Found.{Headed, lookup-held, head-sound, head-found, read-at, read-done}
-use Rattle.store.proofs.Whole.{whole-facts}
+use Rattle.expull_header.specs.declared.Header.{Header}
+use Rattle.expull_header.specs.Header.{blockCount, laneLength}
+use Rattle.expull_walk.specs.Blocks.{goodBlocks, laneBytes}
+use Rattle.expull_walk.proofs.Laws.{blocks-fewer, lane-bytes-length}
+use Rattle.store_state.specs.declared.State.{State}
+use Rattle.store_look.specs.declared.Lookup.{Lookup}
+use Rattle.store_look.specs.declared.Lookup.the-variants.{At, Missing, Failed}
+use Rattle.store_look.specs.declared.Answer.the-variants.{Found, Refused as Read·Refused}
+use Rattle.store_look.specs.declared.Outcome.the-variants.{Reading}
+use Rattle.records.specs.Record.{headerOf, headerSound}
+use Rattle.store_look.specs.Look.{Lent, lookupOf, blocksSound, Read, reading, readAt, readOf, onLookupRead}
+use Rattle.records.proofs.Laws.{Headed, head-sound, head-found}
+use Rattle.store_look.proofs.Found.{lookup-held, read-at, read-done}
+use Rattle.store_state.proofs.Whole.{whole-facts}
 use Rattle.lane_pieces.specs.Piece.{blocksMet, pieceLength, out, gives, pieceOf}
 use Rattle.lane_pieces.specs.declared.Pieced.the-variants.{Given, Refused}
 use Rattle.lane_pieces.proofs.Places.{met-none, met}

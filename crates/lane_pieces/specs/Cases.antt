@@ -6,13 +6,13 @@ use mathlib.Core.List.{List, [], _∷_}
 use lib.ListN.{replicate}
 use Rattle.limits.specs.Refusals.{answered, refused, absent, aPiece}
 use Rattle.spans.specs.Span.{overwrite}
-use Rattle.store.specs.declared.State.{State}
-use Rattle.store.specs.declared.Appended.{Appended}
-use Rattle.store.specs.declared.Appended.the-variants.{Accepted, Declined}
-use Rattle.store.specs.Create.{freshState, createOf}
-use Rattle.store.specs.Look.{Lent, lent, readOf}
-use Rattle.store.specs.Said.{saidAnswer}
-use Rattle.store.specs.Append.{Out as Outcome, appendOf}
+use Rattle.store_state.specs.declared.State.{State}
+use Rattle.store_append.specs.declared.Appended.{Appended}
+use Rattle.store_append.specs.declared.Appended.the-variants.{Accepted, Declined}
+use Rattle.store_create.specs.Create.{freshState, createOf}
+use Rattle.store_look.specs.Look.{Lent, lent, readOf}
+use Rattle.store_look.specs.Said.{saidAnswer}
+use Rattle.store_append.specs.Append.{Out as Outcome, appendOf}
 use Rattle.lane_pieces.specs.Piece.{Out, blockHolding, blocksMet, pieceOf}
 use Rattle.lane_pieces.specs.Said.{saidPieced}
 

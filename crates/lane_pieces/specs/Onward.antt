@@ -11,11 +11,11 @@ use Rattle.spans.specs.Span.{readSpan, overwrite}
 use Rattle.memory_arena.specs.declared.Arena.{Arena}
 use Rattle.memory_arena.specs.Pages.{goodSpan}
 use Rattle.memory_arena.specs.Calls.{sensible}
-use Rattle.expull.specs.declared.Walked.{Walked}
-use Rattle.expull.specs.declared.Walked.the-variants.{To, Stopped}
-use Rattle.expull.specs.declared.Header.{Header}
-use Rattle.expull.specs.Header.{blockSize, fullBytes, soundHeader, laneLength}
-use Rattle.expull.specs.Blocks.{goodBlocks, laneBytes}
+use Rattle.expull_walk.specs.declared.Walked.{Walked}
+use Rattle.expull_walk.specs.declared.Walked.the-variants.{To, Stopped}
+use Rattle.expull_header.specs.declared.Header.{Header}
+use Rattle.expull_header.specs.Header.{blockSize, fullBytes, soundHeader, laneLength}
+use Rattle.expull_walk.specs.Blocks.{goodBlocks, laneBytes}
 use Rattle.lane_pieces.specs.Piece.{blocksMet}
 
 -- RULES AD6. Where the block behind block i is, which lies at a place.

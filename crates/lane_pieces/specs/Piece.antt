@@ -8,13 +8,14 @@ use lib.Dec.{leb, ltb, eqb}
 use lib.ListN.{length}
 use Rattle.spans.specs.Span.{readSpan, overwrite}
 use Rattle.memory_arena.specs.declared.Arena.{Arena}
-use Rattle.expull.specs.declared.Header.{Header}
-use Rattle.expull.specs.Header.{fullBytes, laneLength}
-use Rattle.expull.specs.Blocks.{goodBlocks, laneBytes}
-use Rattle.store.specs.declared.State.{State}
-use Rattle.store.specs.declared.Lookup.{Lookup}
-use Rattle.store.specs.declared.Lookup.the-variants.{At, Missing, Failed}
-use Rattle.store.specs.Look.{Lent, lookupOf, headerOf, headerSound}
+use Rattle.expull_header.specs.declared.Header.{Header}
+use Rattle.expull_header.specs.Header.{fullBytes, laneLength}
+use Rattle.expull_walk.specs.Blocks.{goodBlocks, laneBytes}
+use Rattle.store_state.specs.declared.State.{State}
+use Rattle.store_look.specs.declared.Lookup.{Lookup}
+use Rattle.store_look.specs.declared.Lookup.the-variants.{At, Missing, Failed}
+use Rattle.records.specs.Record.{headerOf, headerSound}
+use Rattle.store_look.specs.Look.{Lent, lookupOf}
 use Rattle.lane_pieces.specs.declared.Pieced.{Pieced}
 use Rattle.lane_pieces.specs.declared.Pieced.the-variants.{Absent, Given, Refused}
 

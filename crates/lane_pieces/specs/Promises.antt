@@ -5,11 +5,11 @@ use mathlib.Core.Path.{_≡_}
 use mathlib.Core.List.{List}
 use lib.ListN.{length}
 use Rattle.spans.specs.Span.{readSpan, overwrite}
-use Rattle.store.specs.declared.State.{State}
-use Rattle.store.specs.declared.Lookup.the-variants.{Missing}
-use Rattle.store.specs.declared.Answer.the-variants.{Found}
-use Rattle.store.specs.declared.Outcome.the-variants.{Reading}
-use Rattle.store.specs.Look.{Lent, lookupOf, readOf}
+use Rattle.store_state.specs.declared.State.{State}
+use Rattle.store_look.specs.declared.Lookup.the-variants.{Missing}
+use Rattle.store_look.specs.declared.Answer.the-variants.{Found}
+use Rattle.store_look.specs.declared.Outcome.the-variants.{Reading}
+use Rattle.store_look.specs.Look.{Lent, lookupOf, readOf}
 use Rattle.lane_pieces.specs.declared.Pieced.the-variants.{Absent, Given, Refused}
 use Rattle.lane_pieces.specs.Piece.{Out, out, pieceOf}
 

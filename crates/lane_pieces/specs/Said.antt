@@ -2,7 +2,7 @@
 -- length.
 use mathlib.Core.List.{[], _∷_}
 use Rattle.limits.specs.Refusals.{Said, answered, refused, absent, aPiece}
-use Rattle.store.specs.Said.{toldWith}
+use Rattle.store_look.specs.Said.{toldWith}
 use Rattle.lane_pieces.specs.declared.Pieced.{Pieced}
 use Rattle.lane_pieces.specs.declared.Pieced.the-variants.{Absent, Given, Refused}
 

@@ -4,14 +4,15 @@
 // 2 for a count above the lane's length, 4 for a block that it meets, 8 with the lane's length for an output without a
 // place, and nothing is written; else as many of the bytes behind the count as there are places, or as are left, at the
 // output's front and no byte behind them. specs/Piece.antt is that. Only the blocks up to the last that it gives bytes
-// of are met, and all of these before a byte is written. It uses store, expull, memory_arena, fastcpy and spans.
-use expull::Block;
-use expull::Header;
-use expull::Walked;
+// of are met, and all of these before a byte is written. It uses store_state, store_create, store_look, store_append,
+// expull_header, expull_walk, memory_arena, fastcpy and spans.
+use expull_header::Header;
+use expull_walk::Block;
+use expull_walk::Walked;
 use memory_arena::Arena;
-use store::Head;
-use store::Lookup;
-use store::State;
+use records::Head;
+use store_look::Lookup;
+use store_state::State;
 ghost use mathlib.Core.Path.{_≡_};
 ghost use mathlib.Core.Bool.{true};
 ghost use Prim.Native.Nat.{_+_, _-_, _≤_, _<_, min};
@@ -20,12 +21,11 @@ ghost use Rattle.limits.specs.Limits.{numberLimit};
 ghost use Rattle.limits.specs.Refusals.{readingPiece, permitted};
 ghost use Rattle.spans.specs.Span.{readSpan, overwrite};
 ghost use Rattle.memory_arena.specs.Calls.{sensible};
-ghost use Rattle.shared_arena_hashmap.specs.Probe.{valuePlace};
-ghost use Rattle.expull.specs.Header.{fullBytes};
-ghost use Rattle.store.specs.Look.{lent, lookedOf};
+ghost use Rattle.records.specs.Record.{valuePlace};
+ghost use Rattle.expull_header.specs.Header.{fullBytes};
+ghost use Rattle.store_look.specs.Look.{lent, lookedOf};
 ghost use Rattle.lane_pieces.specs.Piece.{blockHolding, notFound, out, pieceAt, pieceOf};
-ghost use Rattle.lane_pieces.specs.Onward.{goodOn, bytesOn, lastOn, Copyable, went, goneOn};
-ghost use Rattle.lane_pieces.specs.Onward.{Going, Within, Put};
+ghost use Rattle.lane_pieces.specs.Onward.{goodOn, bytesOn, lastOn, Copyable, went, goneOn, Going, Within, Put};
 ghost use Rattle.lane_pieces.specs.Said.{saidPieced};
 
 // A piece's answer: absent; how many bytes it gave; or a refusal's number and what it tells.
@@ -41,16 +41,6 @@ pub struct ToldPiece {
     pub walk: usize,
 }
 
-// The smaller of two numbers.
-pub fn least(a: u64, b: u64) -> u64
-    ensures { λ r. ⌜ r ≡ min a b ⌝ }
-{
-    if a < b {
-        return a;
-    }
-    b
-}
-
 // ---- blocks by their index
 
 // What the first k blocks of a lane hold. They double up to the twelfth and are of one size behind it.
@@ -59,7 +49,7 @@ pub fn full_bytes(k: u32) -> u64
     ensures { λ r. ⌜ r ≡ fullBytes k ⌝ }
 {
     if k <= 12 {
-        return expull::headers::get_block_size(k + 3) as u64 - 8;
+        return expull_header::get_block_size(k + 3) as u64 - 8;
     }
     32760 + (k as u64 - 12) * 32768
 }
@@ -92,7 +82,7 @@ fn are_good_on(lists: &[u8], arena: Arena, first: u32, end: u32, place: u32) -> 
     let mut b = place;
     let mut i = first;
     while i < end {
-        let size = expull::headers::get_block_size(i + 3) as usize;
+        let size = expull_header::get_block_size(i + 3) as usize;
         if !memory_arena::is_good_span(arena, b, size + limits::LINK) {
             return false;
         }
@@ -124,8 +114,8 @@ fn copy_on(
     let mut from = skip;
     let mut at = 0;
     while i < end {
-        let size = expull::headers::get_block_size(i + 3) as usize;
-        let k = least((size - from) as u64, (n - at) as u64) as usize;
+        let size = expull_header::get_block_size(i + 3) as usize;
+        let k = numbers::long::least((size - from) as u64, (n - at) as u64) as usize;
         let start = b as usize;
         let s = start + from;
         let e = s + k;
@@ -173,7 +163,7 @@ fn put_piece(lists: &[u8], arena: Arena, h: Header, given: u64, n: usize, output
     ensures { λ r. ⌜ Put arena (now (lists .entry)) h given n (now (output .entry)) r (now (output .exit)) ⌝ }
 {
     let first = block_holding(given);
-    let found = expull::walk::find_block(lists, arena, h, first as usize);
+    let found = expull_walk::find_block(lists, arena, h, first as usize);
     let Block::BlockAt(place, _) = found else {
         return false;
     };
@@ -198,11 +188,11 @@ fn piece_at(
     ensures { λ r. ⌜ out r (now (output .exit))
         ≡ pieceAt arena (now (keys .entry)) (now (lists .entry)) given at (now (output .entry)) ⌝ }
 {
-    let head = store::get_head(keys, at);
+    let head = records::get_head(keys, at);
     let Head::Sound(h) = head else {
         return Pieced::Refused(4, 0);
     };
-    let length = expull::headers::lane_length(h);
+    let length = expull_header::lane_length(h);
     if length < given {
         return Pieced::Refused(2, 0);
     }
@@ -210,7 +200,7 @@ fn piece_at(
     if room == 0 {
         return Pieced::Refused(8, length);
     }
-    let n = least(room, length - given);
+    let n = numbers::long::least(room, length - given);
     if n == 0 {
         return Pieced::Given(0);
     }
@@ -249,7 +239,7 @@ pub fn piece(
         ≡ lookedOf st (lent (now (table .entry)) (now (keys .entry)) (now (lists .entry))) (now (name .entry)) ⌝ }
 {
     let arena = st.list_arena;
-    let looked = store::look::lookup(st, table, keys, lists, name);
+    let looked = store_look::lane::lookup(st, table, keys, lists, name);
     let walk = looked.walk;
     let found = looked.answer;
     let Lookup::At(at) = found else {

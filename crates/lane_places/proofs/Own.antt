@@ -13,16 +13,18 @@ use Rattle.numbers.proofs.Tests.{both-true}
 use Rattle.spans.specs.Span.{readSpan, overwrite}
 use Rattle.memory_arena.specs.declared.Arena.{Arena}
 use Rattle.memory_arena.specs.Calls.{sensible}
-use Rattle.expull.specs.declared.Header.{Header}
-use Rattle.expull.specs.Header.{soundHeader, fullBytes, laneLength}
-use Rattle.expull.specs.Blocks.{blockPlace, goodBlocks, laneBytes}
-use Rattle.expull.proofs.Laws.Blocks.{blocks-fewer}
-use Rattle.store.specs.declared.State.{State}
-use Rattle.store.specs.declared.Lookup.{Lookup}
-use Rattle.store.specs.declared.Lookup.the-variants.{At, Missing, Failed}
-use Rattle.store.specs.Look.{Lent, lookupOf, headerOf, headerSound}
-use Rattle.store.proofs.Found.{Headed, head-found, head-sound, lookup-held}
-use Rattle.store.proofs.Whole.{whole-facts}
+use Rattle.expull_header.specs.declared.Header.{Header}
+use Rattle.expull_header.specs.Header.{soundHeader, fullBytes, laneLength}
+use Rattle.expull_walk.specs.Blocks.{blockPlace, goodBlocks, laneBytes}
+use Rattle.expull_walk.proofs.Laws.{blocks-fewer}
+use Rattle.store_state.specs.declared.State.{State}
+use Rattle.store_look.specs.declared.Lookup.{Lookup}
+use Rattle.store_look.specs.declared.Lookup.the-variants.{At, Missing, Failed}
+use Rattle.records.specs.Record.{headerOf, headerSound}
+use Rattle.store_look.specs.Look.{Lent, lookupOf}
+use Rattle.records.proofs.Laws.{Headed, head-found, head-sound}
+use Rattle.store_look.proofs.Found.{lookup-held}
+use Rattle.store_state.proofs.Whole.{whole-facts}
 use Rattle.lane_pieces.specs.declared.Pieced.{Pieced}
 use Rattle.lane_pieces.specs.declared.Pieced.the-variants.{Absent, Given, Refused}
 use Rattle.lane_pieces.specs.Piece.{blockHolding, blocksMet, pieceLength, gives, pieceAt, pieceOf}
@@ -30,15 +32,13 @@ use Rattle.lane_pieces.specs.Piece.{Out as Piece·Out, out as piece·out}
 use Rattle.lane_pieces.specs.Onward.{goodOn, lastOn}
 use Rattle.lane_pieces.proofs.Places.{full-none, holding, holding-least, met-some, met}
 use Rattle.lane_pieces.proofs.Onward.{good-on, lane-on, next-own}
-use Rattle.lane_pieces.proofs.Pieces.{piece-met, piece-none}
-use Rattle.lane_pieces.proofs.Pieces.{piece-4, piece-2, piece-8, piece-looked}
+use Rattle.lane_pieces.proofs.Pieces.{piece-met, piece-none, piece-4, piece-2, piece-8, piece-looked}
 use Rattle.lane_places.specs.declared.Place.{Place}
 use Rattle.lane_places.specs.PieceOn.{endsThere, fitsLength, blockAt, metOn, Out, out, bytesAfter}
 use Rattle.lane_places.specs.PieceOn.{beginning, goneFrom, pieceOnAt, onLookup, pieceOnOf}
 use Rattle.lane_places.specs.Promises.{Own}
-use Rattle.lane_places.proofs.PieceOn.{on-none, on-go}
-use Rattle.lane_places.proofs.PieceOn.{fits-above, fits-facts, gone-good, gone-bad, place-some, on-4, on-2, on-8}
-use Rattle.lane_places.proofs.PieceOn.{on-looked}
+use Rattle.lane_places.proofs.PieceOn.{on-none, on-go, fits-above, fits-facts, gone-good, gone-bad, place-some}
+use Rattle.lane_places.proofs.PieceOn.{on-4, on-2, on-8, on-looked}
 
 -- ---- the last of the blocks from one of a lane's on is the lane's own
 

@@ -16,17 +16,18 @@ use Rattle.spans.specs.Span.{overwrite}
 use Rattle.spans.proofs.Laws.{span-none, overwrite-none}
 use Rattle.memory_arena.specs.declared.Arena.{Arena}
 use Rattle.memory_arena.specs.Calls.{sensible}
-use Rattle.expull.specs.declared.Header.{Header}
-use Rattle.expull.specs.declared.Walked.{Walked}
-use Rattle.expull.specs.declared.Walked.the-variants.{To, Stopped}
-use Rattle.expull.specs.Header.{soundHeader, fullBytes, laneLength}
-use Rattle.expull.proofs.Laws.Header.{length-most}
-use Rattle.store.specs.declared.State.{State}
-use Rattle.store.specs.declared.Lookup.{Lookup}
-use Rattle.store.specs.declared.Lookup.the-variants.{At, Missing, Failed}
-use Rattle.store.proofs.Lookup.{the-type}
-use Rattle.store.specs.Look.{Lent, lookupOf, headerSound}
-use Rattle.store.proofs.Found.{Headed}
+use Rattle.expull_header.specs.declared.Header.{Header}
+use Rattle.expull_walk.specs.declared.Walked.{Walked}
+use Rattle.expull_walk.specs.declared.Walked.the-variants.{To, Stopped}
+use Rattle.expull_header.specs.Header.{soundHeader, fullBytes, laneLength}
+use Rattle.expull_header.proofs.Laws.{length-most}
+use Rattle.store_state.specs.declared.State.{State}
+use Rattle.store_look.specs.declared.Lookup.{Lookup}
+use Rattle.store_look.specs.declared.Lookup.the-variants.{At, Missing, Failed}
+use Rattle.store_look.proofs.Lookup.{the-type}
+use Rattle.records.specs.Record.{headerSound}
+use Rattle.store_look.specs.Look.{Lent, lookupOf}
+use Rattle.records.proofs.Laws.{Headed}
 use Rattle.lane_pieces.specs.declared.Pieced.the-variants.{Given, Refused}
 use Rattle.lane_pieces.specs.Piece.{blockHolding, blocksMet, pieceLength, notFound}
 use Rattle.lane_pieces.specs.Onward.{goodOn, lastOn, went, goneOn, Going}

@@ -3,8 +3,8 @@
 use Prim.Native.Nat.{ℕ}
 use mathlib.Core.Path.{_≡_, refl}
 use mathlib.Core.List.{List, [], _∷_}
-use Rattle.store.specs.Create.{createOf}
-use Rattle.store.specs.Append.{appendOf}
+use Rattle.store_create.specs.Create.{createOf}
+use Rattle.store_append.specs.Append.{appendOf}
 use Rattle.lane_pieces.specs.declared.Pieced.the-variants.{Given, Refused}
 use Rattle.lane_pieces.specs.Cases.{sevens, nine, lent-nine}
 use Rattle.lane_places.specs.declared.Place.{Place}

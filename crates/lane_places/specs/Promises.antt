@@ -5,12 +5,13 @@ use mathlib.Core.Path.{_≡_}
 use mathlib.Core.Bool.{true}
 use mathlib.Core.List.{List}
 use Rattle.memory_arena.specs.declared.Arena.{Arena}
-use Rattle.expull.specs.declared.Header.{Header}
-use Rattle.expull.specs.Header.{fullBytes}
-use Rattle.expull.specs.Blocks.{blockPlace, goodBlocks}
-use Rattle.store.specs.declared.State.{State}
-use Rattle.store.specs.declared.Lookup.the-variants.{At}
-use Rattle.store.specs.Look.{Lent, lookupOf, headerOf}
+use Rattle.expull_header.specs.declared.Header.{Header}
+use Rattle.expull_header.specs.Header.{fullBytes}
+use Rattle.expull_walk.specs.Blocks.{blockPlace, goodBlocks}
+use Rattle.store_state.specs.declared.State.{State}
+use Rattle.store_look.specs.declared.Lookup.the-variants.{At}
+use Rattle.records.specs.Record.{headerOf}
+use Rattle.store_look.specs.Look.{Lent, lookupOf}
 use Rattle.lane_pieces.specs.declared.Pieced.the-variants.{Refused}
 use Rattle.lane_pieces.specs.Piece.{pieceOf}
 use Rattle.lane_places.specs.declared.Place.{Place}

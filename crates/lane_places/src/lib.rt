@@ -3,22 +3,22 @@
 // It promises, for any state, any lent memory, any place and any output: what specs/PieceOn.antt says, by a piece's
 // numbers; a place in whose block the bytes given so far can't end is 2. Where the place is the lane's own, it gives
 // what a piece by its count gives, and hands back the lane's own again (specs/Promises.antt). It uses lane_pieces,
-// store, expull and memory_arena.
-use expull::Header;
-use expull::Walked;
+// store_state, store_create, store_look, store_append, expull_header, expull_walk and memory_arena.
+use expull_header::Header;
+use expull_walk::Walked;
 use lane_pieces::Pieced;
 use memory_arena::Arena;
-use store::Head;
-use store::Lookup;
-use store::State;
+use records::Head;
+use store_look::Lookup;
+use store_state::State;
 ghost use mathlib.Core.Path.{_≡_};
 ghost use mathlib.Core.Bool.{true};
 ghost use Prim.Native.Nat.{_+_, _≤_};
 ghost use lib.ListN.{length};
 ghost use Rattle.limits.specs.Refusals.{readingPiece, permitted};
 ghost use Rattle.memory_arena.specs.Calls.{sensible};
-ghost use Rattle.shared_arena_hashmap.specs.Probe.{valuePlace};
-ghost use Rattle.store.specs.Look.{lent, lookedOf};
+ghost use Rattle.records.specs.Record.{valuePlace};
+ghost use Rattle.store_look.specs.Look.{lent, lookedOf};
 ghost use Rattle.lane_pieces.specs.Said.{saidPieced};
 ghost use Rattle.lane_pieces.specs.Onward.{Going};
 ghost use Rattle.lane_places.specs.PieceOn.{beginning, fitsLength, blockAt, outOf, goneFrom, pieceOnAt};
@@ -123,11 +123,11 @@ fn piece_on_at(
     ensures { λ r. ⌜ outOf r (now (output .exit))
         ≡ pieceOnAt arena (now (keys .entry)) (now (lists .entry)) p at (now (output .entry)) ⌝ }
 {
-    let head = store::get_head(keys, at);
+    let head = records::get_head(keys, at);
     let Head::Sound(h) = head else {
         return stays(Pieced::Refused(4, 0), p);
     };
-    let length = expull::headers::lane_length(h);
+    let length = expull_header::lane_length(h);
     if !fits_length(p, length) {
         return stays(Pieced::Refused(2, 0), p);
     }
@@ -135,7 +135,7 @@ fn piece_on_at(
     if room == 0 {
         return stays(Pieced::Refused(8, length), p);
     }
-    let n = lane_pieces::least(room, length - p.given);
+    let n = numbers::long::least(room, length - p.given);
     if n == 0 {
         return stays(Pieced::Given(0), p);
     }
@@ -161,7 +161,7 @@ pub fn piece_on(
         ≡ lookedOf st (lent (now (table .entry)) (now (keys .entry)) (now (lists .entry))) (now (name .entry)) ⌝ }
 {
     let arena = st.list_arena;
-    let looked = store::look::lookup(st, table, keys, lists, name);
+    let looked = store_look::lane::lookup(st, table, keys, lists, name);
     let walk = looked.walk;
     let found = looked.answer;
     let Lookup::At(at) = found else {

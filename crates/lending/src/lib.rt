@@ -2,8 +2,8 @@
 // lanes, so many bytes in all and names of at most so many bytes.
 //
 // It promises the numbers of specs/Lending.antt, for any input; shift_cost proves that a store which was created with
-// them never refuses a shift that stays within it. It uses limits, memory_arena for
-// page sizes, and shared_arena_hashmap for powers of two.
+// them never refuses a shift that stays within it. It uses limits, numbers, memory_arena for page sizes, and
+// shared_arena_hashmap for powers of two.
 ghost use mathlib.Core.Path.{_≡_};
 ghost use Prim.Native.Nat.{_+_, _-_, _*_, _≤_, _<_, min, max};
 ghost use Rattle.limits.specs.Limits.{nameLimitFor};
@@ -21,15 +21,6 @@ const BUCKETS: u64 = limits::WORD_LIMIT as u64 / 2;
 
 // What of a page that is left behind is never used, at most: a byte less than the largest block with its link.
 const BLOCK_TAIL: u64 = 32771;
-
-fn least(a: u64, b: u64) -> u64
-    ensures { λ r. ⌜ r ≡ min a b ⌝ }
-{
-    if a < b {
-        return a;
-    }
-    b
-}
 
 fn at_least_one(n: u64) -> u64
     ensures { λ r. ⌜ r ≡ max 1 n ⌝ }
@@ -58,7 +49,7 @@ fn taken_at_most(lanes: u64, bytes: u64) -> u64
 {
     let short = (5 * bytes + 20 * lanes) / 2;
     let long = bytes + bytes / 8192 + 32816 * lanes;
-    least(short, long)
+    numbers::long::least(short, long)
 }
 
 fn list_bytes_for(page: u64, lanes: u64, bytes: u64) -> u64
@@ -74,7 +65,7 @@ fn key_bytes_for(page: u64, lanes: u64, longest: u64) -> u64
 {
     let record = longest + limits::RECORD_EXTRA as u64;
     let on_page = page / record;
-    let before = lanes - least(lanes, 1);
+    let before = lanes - numbers::long::least(lanes, 1);
     before / on_page * page + (before % on_page + 1) * record
 }
 
@@ -96,7 +87,7 @@ pub fn lend_for(lanes: u64, bytes: u64, longest: u64, page: u64) -> Lend
         return Lend::NoSuchPage;
     }
     let most = limits::ADDRESSES as u64 - page;
-    let name_most = least(
+    let name_most = numbers::long::least(
         limits::NAME_LIMIT as u64,
         page - limits::RECORD_EXTRA as u64,
     );

@@ -1,8 +1,8 @@
 // The numbers of documents 01 and 02, each under a name, in one place: what bounds the store, and what an answer says.
 //
-// It promises nothing by itself: it has no function. `specs/Limits.antt` has the same numbers for the definitions, with the laws
-// that tie them together, and every contract above is stated over those; a constant that disagreed would fail the first proof that
-// meets it. `specs/Refusals.antt` says what an answer is in the paper's terms. It uses nothing.
+// It promises nothing by itself: it has no function. `specs/Limits.antt` has the same numbers for the definitions, with
+// the laws that tie them together, and every contract above is stated over those; a constant that disagreed would fail
+// the first proof that meets it. `specs/Refusals.antt` says what an answer is in the paper's terms. It uses nothing.
 
 // A page's bytes: powers of two from the smallest to the crate's, which is the largest.
 pub const SMALLEST_PAGE: usize = 65536;

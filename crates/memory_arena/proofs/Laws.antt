@@ -99,20 +99,23 @@ good-facts a at n e =
 
 pub good-made : (a : Arena) (at n : ℕ) → Good a at n → goodSpan a at n ≡ true
 unfolding goodSpan
-good-made a at n g = both-true _ _ (le-leb _ _ (g .page-in)) (le-leb _ _ (go (eqb (pageOf (a .size) at) (a .page)) refl))
+good-made a at n g =
+    both-true _ _ (le-leb _ _ (g .page-in)) (le-leb _ _ (go (eqb (pageOf (a .size) at) (a .page)) refl))
   where
     go : (t : Bool) → eqb (pageOf (a .size) at) (a .page) ≡ t → placeOf (a .size) at + n ≤ cond t (a .used) (a .size)
     go true e = g .current (eqb-true _ _ e)
     go false e = let z : (pageOf (a .size) at ≡ a .page → ⊥) = eqb-false _ _ e in g .earlier (omega (arith, g .page-in))
 
 -- a good span ends within the used end, and on its page
-pub good-end : (a : Arena) (at n len : ℕ) → standing a len ≡ true → goodSpan a at n ≡ true → at + n ≤ a .page * a .size + a .used
+pub good-end : (a : Arena) (at n len : ℕ) → standing a len ≡ true → goodSpan a at n ≡ true
+    → at + n ≤ a .page * a .size + a .used
 good-end a at n len e f =
     let h = standing-facts a len e in
     let g = good-facts a at n f in
     go (ltb (pageOf (a .size) at) (a .page)) refl h g
   where
-    go : (t : Bool) → ltb (pageOf (a .size) at) (a .page) ≡ t → Standing a len → Good a at n → at + n ≤ a .page * a .size + a .used
+    go : (t : Bool) → ltb (pageOf (a .size) at) (a .page) ≡ t → Standing a len → Good a at n
+        → at + n ≤ a .page * a .size + a .used
     go true e h g =
         let q : pageOf (a .size) at < a .page = ltb-true _ _ e in
         omega (arith, split (a .size) at, page-before (a .size) (pageOf (a .size) at) (a .page) q, g .earlier q)
@@ -126,27 +129,38 @@ good-end a at n len e f =
 pub good-in : (a : Arena) (at n len : ℕ) → standing a len ≡ true → goodSpan a at n ≡ true → at + n ≤ len
 good-in a at n len e f = omega (arith, good-end a at n len e f, standing-facts a len e .in-memory)
 
-pub good-page : (a : Arena) (at n len : ℕ) → standing a len ≡ true → goodSpan a at n ≡ true → placeOf (a .size) at + n ≤ a .size
+pub good-page : (a : Arena) (at n len : ℕ) → standing a len ≡ true → goodSpan a at n ≡ true
+    → placeOf (a .size) at + n ≤ a .size
 good-page a at n len e f = go (ltb (pageOf (a .size) at) (a .page)) refl (standing-facts a len e) (good-facts a at n f)
   where
-    go : (t : Bool) → ltb (pageOf (a .size) at) (a .page) ≡ t → Standing a len → Good a at n → placeOf (a .size) at + n ≤ a .size
+    go : (t : Bool) → ltb (pageOf (a .size) at) (a .page) ≡ t → Standing a len → Good a at n
+        → placeOf (a .size) at + n ≤ a .size
     go true e h g = g .earlier (ltb-true _ _ e)
-    go false e h g = let k : a .page ≤ pageOf (a .size) at = ltb-false _ _ e in omega (arith, g .current (omega (arith, g .page-in)), h .in-page)
+    go false e h g =
+        let k : a .page ≤ pageOf (a .size) at = ltb-false _ _ e in
+        omega (arith, g .current (omega (arith, g .page-in)), h .in-page)
 
 -- a shorter span at the same address is good too
 pub good-shorter : (a : Arena) (at n k : ℕ) → k ≤ n → goodSpan a at n ≡ true → goodSpan a at k ≡ true
 good-shorter a at n k h f =
     let g = good-facts a at n f in
     good-made a at k
-    (record { page-in = g .page-in; current = λ q. omega (arith, g .current q); earlier = λ q. omega (arith, g .earlier q) })
+    (record {
+      page-in = g .page-in;
+      current = λ q. omega (arith, g .current q);
+      earlier = λ q. omega (arith, g .earlier q);
+    })
 
 -- a span that ends within the used end and on its page is good
-pub good-below : (a : Arena) (at n : ℕ) → 0 < n → placeOf (a .size) at + n ≤ a .size → at + n ≤ a .page * a .size + a .used → a .used ≤ a .size → goodSpan a at n ≡ true
+pub good-below : (a : Arena) (at n : ℕ) → 0 < n → placeOf (a .size) at + n ≤ a .size
+    → at + n ≤ a .page * a .size + a .used → a .used ≤ a .size → goodSpan a at n ≡ true
 good-below a at n z p q u =
     good-made a at n
     (record {
       page-in = inside (ltb (a .page) (pageOf (a .size) at)) refl;
-      current = λ e. let k : pageOf (a .size) at * a .size ≡ a .page * a .size = ap (λ (x : ℕ). x * a .size) e in omega (arith, split (a .size) at);
+      current =
+          λ e. let k : pageOf (a .size) at * a .size ≡ a .page * a .size = ap (λ (x : ℕ). x * a .size) e in
+          omega (arith, split (a .size) at);
       earlier = λ e. p;
     })
   where
@@ -176,7 +190,8 @@ room-cases : (P : ℕ → Arena → Type 0) (a : Arena) (len n at : ℕ) (b : Ar
     → roomFor a len n ≡ At at b → P at b
 unfolding roomFor
 room-cases P a len n at b here next f =
-    go (leb (a .used + n) (capacityOf (a .size) len (a .page))) refl (leb n (capacityOf (a .size) len (a .page + 1))) refl f
+    go (leb (a .used + n) (capacityOf (a .size) len (a .page))) refl
+    (leb n (capacityOf (a .size) len (a .page + 1))) refl f
   where
     same : (x : ℕ) (c : Arena) → P x c → At x c ≡ At at b → P at b
     same x c p e =
@@ -186,8 +201,10 @@ room-cases P a len n at b here next f =
 
     go : (t : Bool) → leb (a .used + n) (capacityOf (a .size) len (a .page)) ≡ t
         → (u : Bool) → leb n (capacityOf (a .size) len (a .page + 1)) ≡ u
-        → cond t (At (addressOf (a .size) (a .page) (a .used)) (record { page = a .page; used = a .used + n; size = a .size }))
-        (cond u (At (addressOf (a .size) (a .page + 1) 0) (record { page = a .page + 1; used = n; size = a .size })) NoRoom) ≡ At at b
+        → cond t (At (addressOf (a .size) (a .page) (a .used))
+        (record { page = a .page; used = a .used + n; size = a .size }))
+        (cond u (At (addressOf (a .size) (a .page + 1) 0) (record { page = a .page + 1; used = n; size = a .size }))
+        NoRoom) ≡ At at b
         → P at b
     go true p u q f = same _ _ (here (leb-true _ _ p)) f
     go false p true q f = same _ _ (next (leb-true _ _ q)) f
@@ -197,10 +214,12 @@ room-cases P a len n at b here next f =
 pub room-size : (a : Arena) (len n at : ℕ) (b : Arena) → roomFor a len n ≡ At at b → b .size ≡ a .size
 room-size a len n at b f = room-cases (λ x c. c .size ≡ a .size) a len n at b (λ h. refl) (λ h. refl) f
 
-pub room-facts : (a : Arena) (len n at : ℕ) (b : Arena) → 0 < n → standing a len ≡ true → roomFor a len n ≡ At at b → Room a len n at b
+pub room-facts : (a : Arena) (len n at : ℕ) (b : Arena) → 0 < n → standing a len ≡ true → roomFor a len n ≡ At at b
+    → Room a len n at b
 room-facts a len n at b z e f =
     let h = standing-facts a len e in
-    let k : a .page * a .size + a .size ≤ (a .page + 1) * a .size = page-before (a .size) (a .page) (a .page + 1) (omega arith) in
+    let k : a .page * a .size + a .size ≤ (a .page + 1) * a .size =
+    page-before (a .size) (a .page) (a .page + 1) (omega arith) in
     room-cases (λ x c. Room a len n x c) a len n at b
     (λ (c : a .used + n ≤ min (a .size) (len - a .page * a .size)). record {
       above = omega arith;
@@ -220,10 +239,12 @@ room-facts a len n at b z e f =
     }) f
 
 -- the span given out lies in the memory, and the state after it is one of that memory
-pub room-in : (a : Arena) (len n at : ℕ) (b : Arena) → 0 < n → standing a len ≡ true → roomFor a len n ≡ At at b → at + n ≤ len
+pub room-in : (a : Arena) (len n at : ℕ) (b : Arena) → 0 < n → standing a len ≡ true → roomFor a len n ≡ At at b
+    → at + n ≤ len
 room-in a len n at b z e f = let r = room-facts a len n at b z e f in omega (arith, r .end, r .after .in-memory)
 
-pub room-standing : (a : Arena) (len n at : ℕ) (b : Arena) → 0 < n → standing a len ≡ true → roomFor a len n ≡ At at b → standing b len ≡ true
+pub room-standing : (a : Arena) (len n at : ℕ) (b : Arena) → 0 < n → standing a len ≡ true → roomFor a len n ≡ At at b
+    → standing b len ≡ true
 room-standing a len n at b z e f = standing-made b len (room-facts a len n at b z e f .after)
 
 -- ---- the state check
@@ -258,7 +279,8 @@ pub sensible-wide : (a : Arena) (len : ℕ) → sensible a len ≡ true → 6553
 sensible-wide a len e = page-least (a .size) (sensible-facts a len e .sized)
 
 -- the state after an allocation passes the check too
-pub room-sensible : (a : Arena) (len n at : ℕ) (b : Arena) → 0 < n → sensible a len ≡ true → roomFor a len n ≡ At at b → sensible b len ≡ true
+pub room-sensible : (a : Arena) (len n at : ℕ) (b : Arena) → 0 < n → sensible a len ≡ true → roomFor a len n ≡ At at b
+    → sensible b len ≡ true
 room-sensible a len n at b z e f =
     let h = sensible-facts a len e in
     let q = sym (room-size a len n at b f) in
@@ -294,7 +316,8 @@ sensible-past a len h = go (sensible a len) refl
 
 -- the check as code makes it
 pub sensible-code : (a : Arena) (len : ℕ) → pageTaken (a .size) ≡ true
-    → (leb len (4294967296 - a .size) && (ltb (a .page * a .size) len && leb (a .used) (capacityOf (a .size) len (a .page)))) ≡ sensible a len
+    → (leb len (4294967296 - a .size)
+    && (ltb (a .page * a .size) len && leb (a .used) (capacityOf (a .size) len (a .page)))) ≡ sensible a len
 unfolding standing
 sensible-code a len z = same-test _ _ to from
   where
@@ -313,7 +336,9 @@ sensible-code a len z = same-test _ _ to from
         })
 
     from : sensible a len ≡ true → (leb len (4294967296 - a .size) && standing a len) ≡ true
-    from e = let h = sensible-facts a len e in both-true _ _ (subst (λ (k : ℕ). leb len k ≡ true) limit (h .short)) (h .stands)
+    from e =
+        let h = sensible-facts a len e in
+        both-true _ _ (subst (λ (k : ℕ). leb len k ≡ true) limit (h .short)) (h .stands)
 
 -- ---- the test for a good span as code makes it
 
@@ -323,16 +348,21 @@ good-past a at n h = left-false _ _ (lt-leb (pageOf (a .size) at) (a .page) h)
 
 pub good-over : (a : Arena) (at n : ℕ) → usedOn a (pageOf (a .size) at) < placeOf (a .size) at → goodSpan a at n ≡ false
 unfolding goodSpan
-good-over a at n h = right-false (leb (pageOf (a .size) at) (a .page)) _ (lt-leb (placeOf (a .size) at + n) (usedOn a (pageOf (a .size) at)) (omega arith))
+good-over a at n h =
+    right-false (leb (pageOf (a .size) at) (a .page)) _
+    (lt-leb (placeOf (a .size) at + n) (usedOn a (pageOf (a .size) at)) (omega arith))
 
-pub good-within : (a : Arena) (at n used : ℕ) → used ≡ usedOn a (pageOf (a .size) at) → pageOf (a .size) at ≤ a .page → placeOf (a .size) at ≤ used
+pub good-within : (a : Arena) (at n used : ℕ) → used ≡ usedOn a (pageOf (a .size) at) → pageOf (a .size) at ≤ a .page
+    → placeOf (a .size) at ≤ used
     → leb n (used - placeOf (a .size) at) ≡ goodSpan a at n
 unfolding goodSpan
 good-within a at n used e h k =
     rw (le-leb _ _ h)
     (same-test _ _
-    (λ t. le-leb (placeOf (a .size) at + n) (usedOn a (pageOf (a .size) at)) (let w : n ≤ used - placeOf (a .size) at = leb-true _ _ t in omega arith))
-    (λ t. le-leb n (used - placeOf (a .size) at) (let w : placeOf (a .size) at + n ≤ usedOn a (pageOf (a .size) at) = leb-true _ _ t in omega arith)))
+    (λ t. le-leb (placeOf (a .size) at + n) (usedOn a (pageOf (a .size) at))
+    (let w : n ≤ used - placeOf (a .size) at = leb-true _ _ t in omega arith))
+    (λ t. le-leb n (used - placeOf (a .size) at)
+    (let w : placeOf (a .size) at + n ≤ usedOn a (pageOf (a .size) at) = leb-true _ _ t in omega arith)))
 
 -- ---- the calls, case by case
 
@@ -360,29 +390,35 @@ room-said a len n q =
     go : (t u : Bool)
         → permitted q
         (saidAllocated
-        (cond t (At (addressOf (a .size) (a .page) (a .used)) (record { page = a .page; used = a .used + n; size = a .size }))
-        (cond u (At (addressOf (a .size) (a .page + 1) 0) (record { page = a .page + 1; used = n; size = a .size })) NoRoom)))
+        (cond t (At (addressOf (a .size) (a .page) (a .used))
+        (record { page = a .page; used = a .used + n; size = a .size }))
+        (cond u (At (addressOf (a .size) (a .page + 1) 0) (record { page = a .page + 1; used = n; size = a .size }))
+        NoRoom)))
         ≡ true
     go true u = refl
     go false true = refl
     go false false = refl
 
-pub read-done : (a : Arena) (pages : List ℕ) (at : ℕ) (output : List ℕ) → reachable a (length pages) at (length output) ≡ true
+pub read-done : (a : Arena) (pages : List ℕ) (at : ℕ) (output : List ℕ)
+    → reachable a (length pages) at (length output) ≡ true
     → readOf a pages at output ≡ out Done (readSpan at (length output) pages)
 unfolding readOf
 read-done a pages at output e = rw e
 
-pub read-declined : (a : Arena) (pages : List ℕ) (at : ℕ) (output : List ℕ) → reachable a (length pages) at (length output) ≡ false
+pub read-declined : (a : Arena) (pages : List ℕ) (at : ℕ) (output : List ℕ)
+    → reachable a (length pages) at (length output) ≡ false
     → readOf a pages at output ≡ out (Declined 10) output
 unfolding readOf
 read-declined a pages at output e = rw e
 
-pub write-done : (a : Arena) (pages : List ℕ) (at : ℕ) (bytes : List ℕ) → reachable a (length pages) at (length bytes) ≡ true
+pub write-done : (a : Arena) (pages : List ℕ) (at : ℕ) (bytes : List ℕ)
+    → reachable a (length pages) at (length bytes) ≡ true
     → writeOf a pages at bytes ≡ out Done (overwrite at bytes pages)
 unfolding writeOf
 write-done a pages at bytes e = rw e
 
-pub write-declined : (a : Arena) (pages : List ℕ) (at : ℕ) (bytes : List ℕ) → reachable a (length pages) at (length bytes) ≡ false
+pub write-declined : (a : Arena) (pages : List ℕ) (at : ℕ) (bytes : List ℕ)
+    → reachable a (length pages) at (length bytes) ≡ false
     → writeOf a pages at bytes ≡ out (Declined 10) pages
 unfolding writeOf
 write-declined a pages at bytes e = rw e

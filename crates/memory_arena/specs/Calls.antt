@@ -66,7 +66,8 @@ out r m = record { answer = r; memory = m }
 unfoldable pub readOf : Arena → List ℕ → ℕ → List ℕ → Out
 unfolding reachable readSpan
 readOf a pages at output =
-    cond (reachable a (length pages) at (length output)) (out Done (readSpan at (length output) pages)) (out (Declined 10) output)
+    cond (reachable a (length pages) at (length output)) (out Done (readSpan at (length output) pages))
+    (out (Declined 10) output)
 
 -- RULES G5. A write.
 unfoldable pub writeOf : Arena → List ℕ → ℕ → List ℕ → Out

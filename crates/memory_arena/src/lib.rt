@@ -13,7 +13,8 @@ ghost use Rattle.limits.specs.Refusals.{allocating, touching, permitted};
 ghost use Rattle.numbers.specs.Wrap.{wrapAdd};
 ghost use Rattle.memory_arena.specs.Address.{addressOf, pageOf, placeOf};
 ghost use Rattle.memory_arena.specs.Pages.{capacityOf, goodSpan, roomFor};
-ghost use Rattle.memory_arena.specs.Calls.{sensible, reachable, allocateOf, saidAllocated, readOf, writeOf, sliceOf, out, saidTouched};
+ghost use Rattle.memory_arena.specs.Calls.{sensible, reachable, allocateOf, saidAllocated, readOf, writeOf};
+ghost use Rattle.memory_arena.specs.Calls.{sliceOf, out, saidTouched};
 
 // An arena's state beside its lent pages: the current page, the bytes used there, and a page's bytes.
 pub struct Arena {
@@ -79,15 +80,6 @@ pub fn offset(addr: u32, n: u32) -> u32
 
 // ---- pages
 
-fn least(a: usize, b: usize) -> usize
-    ensures { λ r. ⌜ r ≡ Prim.Native.Nat.min a b ⌝ }
-{
-    if a < b {
-        return a;
-    }
-    b
-}
-
 // How many bytes a page of a lent memory holds.
 fn page_capacity(size: usize, len: usize, page: usize) -> usize
     requires { ⌜ page * size < 2 ^ 64 ⌝ }
@@ -97,7 +89,7 @@ fn page_capacity(size: usize, len: usize, page: usize) -> usize
     if len < from {
         return 0;
     }
-    least(size, len - from)
+    numbers::least(size, len - from)
 }
 
 // Whether an arena state is one of a lent memory of that length. A page that no arena has is sorted out first, so that

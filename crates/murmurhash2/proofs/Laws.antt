@@ -51,7 +51,8 @@ unfolding readSpan
 from-span s i n = sym (rw (← drop-drop n i s) (take-append-drop n (drop i s)))
 
 -- a turn: four bytes
-pub taken-turn : (h : ℕ) (s : List ℕ) (i : ℕ) → i + 4 ≤ length s → taken h (drop i s) ≡ taken (turned h (leNumber (readSpan i 4 s))) (drop (i + 4) s)
+pub taken-turn : (h : ℕ) (s : List ℕ) (i : ℕ) → i + 4 ≤ length s
+    → taken h (drop i s) ≡ taken (turned h (leNumber (readSpan i 4 s))) (drop (i + 4) s)
 unfolding taken
 taken-turn h s i k = rw (from-span s i 4, span-4 i s k)
 

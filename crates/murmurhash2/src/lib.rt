@@ -1,7 +1,7 @@
 // MurmurHash2, 32 bits, the hash of a lane's name.
 //
-// It promises that for every seed and every key the answer is the public algorithm's, as specs/Murmur.antt writes it down from
-// document 01. It uses numbers and spans.
+// It promises that for every seed and every key the answer is the public algorithm's, as specs/Murmur.antt writes it
+// down from document 01. It uses numbers and spans.
 ghost use mathlib.Core.Path.{_≡_};
 ghost use mathlib.Core.List.{[], _∷_};
 ghost use Prim.Native.Nat.{_-_, _/_, _^_, _≤_, _<_};

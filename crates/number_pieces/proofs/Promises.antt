@@ -2,8 +2,7 @@
 use Rattle.number_pieces.specs.Promises.{Promises}
 use Rattle.number_pieces.proofs.Vints.{number-given, fault-12, fault-11, fewer-wait}
 use Rattle.number_pieces.proofs.Calls.{cut-anywhere, fresh-takes, empty-piece, empty-goes-on, state-back}
-use Rattle.number_pieces.proofs.Calls.{output-back}
-use Rattle.number_pieces.proofs.Calls.{written-back}
+use Rattle.number_pieces.proofs.Calls.{output-back, written-back}
 
 pub promises : Promises
 promises = record {

@@ -16,8 +16,7 @@ use Rattle.vint.specs.Vint.{readVint}
 use Rattle.vint.proofs.Laws.{below-or, take-last, take-on, Took, took-last, took-on, took, took-back, took-front}
 use Rattle.vint.proofs.Laws.{taken-within}
 use Rattle.vint.proofs.Forms.{read-back}
-use Rattle.number_pieces.specs.Run.{onVint, waits, stops, ran, inFront, onStep}
-use Rattle.number_pieces.specs.Run.{runOf}
+use Rattle.number_pieces.specs.Run.{onVint, waits, stops, ran, inFront, onStep, runOf}
 use Rattle.number_pieces.specs.Promises.{vintsOf, Each32}
 use Rattle.number_pieces.proofs.Runs.{step-held, step-asks, is-held, not-held-top, not-held-fifth, run-step}
 use Rattle.number_pieces.proofs.Runs.{run-none}

@@ -39,7 +39,8 @@ unfolding leBytes leNumber
 le-number zero x = sym (mod-one x)
 le-number (suc w) x =
     ap (λ (k : ℕ). x % 256 + 256 * k) (le-number w (x / 256))
-    ∙ (let e : x % 256 ^ suc w ≡ (x / 256 % 256 ^ w) * 256 + x % 256 = rw (pow-suc 256 w) (mod-mul x (width-pos w) (lit< tt)) in
+    ∙ (let e : x % 256 ^ suc w
+    ≡ (x / 256 % 256 ^ w) * 256 + x % 256 = rw (pow-suc 256 w) (mod-mul x (width-pos w) (lit< tt)) in
     omega (arith, mul-comm 256 (x / 256 % 256 ^ w)))
 
 -- the same for a number that fits

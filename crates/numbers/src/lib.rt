@@ -1,12 +1,25 @@
-// Numbers of the machine: sums and products modulo 2^32, and bytes put together as a little-endian number.
+// Numbers of the machine: the smaller of two, sums and products modulo 2^32, and bytes put together as a little-endian
+// number.
 //
-// It promises that each function answers its definition in specs/, for all arguments. The laws of those definitions, once over the
-// width, are in proofs/Laws.antt. It uses nothing.
+// It promises that each function answers its definition in specs/, for all arguments. The laws of those definitions,
+// once over the width, are in proofs/Laws.antt. It uses nothing.
+pub mod long;
+
 ghost use mathlib.Core.Path.{_≡_};
-ghost use Prim.Native.Nat.{_<_, _^_};
+ghost use Prim.Native.Nat.{_<_, _^_, min};
 ghost use mathlib.Core.List.{[], _∷_};
 ghost use Rattle.numbers.specs.Wrap.{wrapAdd, wrapMul};
 ghost use Rattle.numbers.specs.LittleEndian.{leNumber};
+
+// The smaller of two numbers.
+pub fn least(a: usize, b: usize) -> usize
+    ensures { λ r. ⌜ r ≡ min a b ⌝ }
+{
+    if a < b {
+        return a;
+    }
+    b
+}
 
 // The product modulo 2^32.
 pub fn wrapping_mul(a: u32, b: u32) -> u32

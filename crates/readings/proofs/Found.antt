@@ -11,17 +11,18 @@ use borrow.Author.Tests.{le-leb, lt-leb, eq-eqb, ne-eqb}
 use types.Run.{OneOf, miss}
 use denote.Enum.Declared.{tagOf}
 use Rattle.limits.specs.Refusals.{lookingUp, readingReadings, unvinting, refusalNumbers, isAmong, permitted}
-use Rattle.expull.specs.declared.Header.{Header}
-use Rattle.expull.specs.Header.{blockCount}
-use Rattle.expull.specs.Blocks.{goodBlocks, laneBytes}
-use Rattle.store.specs.declared.State.{State}
-use Rattle.store.specs.declared.Lookup.{Lookup}
-use Rattle.store.specs.declared.Lookup.the-variants.{At, Missing, Failed}
-use Rattle.store.specs.Said.{saidLookup}
-use Rattle.store.specs.Look.{Lent, headerOf, headerSound, blocksSound, lookupOf}
-use Rattle.store.proofs.Lookup.{the-type}
-use Rattle.store.proofs.Fair.{fair-lookup}
-use Rattle.store.proofs.Found.{Headed}
+use Rattle.expull_header.specs.declared.Header.{Header}
+use Rattle.expull_header.specs.Header.{blockCount}
+use Rattle.expull_walk.specs.Blocks.{goodBlocks, laneBytes}
+use Rattle.store_state.specs.declared.State.{State}
+use Rattle.store_look.specs.declared.Lookup.{Lookup}
+use Rattle.store_look.specs.declared.Lookup.the-variants.{At, Missing, Failed}
+use Rattle.store_look.specs.Said.{saidLookup}
+use Rattle.records.specs.Record.{headerOf, headerSound}
+use Rattle.store_look.specs.Look.{Lent, blocksSound, lookupOf}
+use Rattle.store_look.proofs.Lookup.{the-type}
+use Rattle.store_look.proofs.Fair.{fair-lookup}
+use Rattle.records.proofs.Laws.{Headed}
 use Rattle.reading_run.specs.Readings.{Split, vintsOf, readingsIn}
 use Rattle.reading_run.proofs.Split.{among-front, among-behind, refusals-listed}
 use Rattle.readings.specs.declared.Recalled.{Recalled}

@@ -9,9 +9,9 @@ use Rattle.limits.specs.Limits.{vintLimit}
 use Rattle.limits.specs.Refusals.{Said, answered, refused, appending, appendingReading, permitted}
 use Rattle.vint.specs.declared.Vint.{Vint}
 use Rattle.vint.specs.Vint.{writeVint, vintOf}
-use Rattle.store.specs.declared.State.{State}
-use Rattle.store.specs.Look.{Lent}
-use Rattle.store.specs.Append.{appendOf}
+use Rattle.store_state.specs.declared.State.{State}
+use Rattle.store_look.specs.Look.{Lent}
+use Rattle.store_append.specs.Append.{appendOf}
 use Rattle.reading_run.specs.Readings.{readingBytes}
 use Rattle.readings.specs.Readings.{appendReadingOf}
 

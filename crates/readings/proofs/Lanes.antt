@@ -14,11 +14,11 @@ use Rattle.spans.specs.Span.{readSpan}
 use Rattle.spans.proofs.Laws.{length-span}
 use Rattle.memory_arena.specs.declared.Arena.{Arena}
 use Rattle.memory_arena.specs.Calls.{sensible}
-use Rattle.expull.specs.declared.Header.{Header}
-use Rattle.expull.specs.Header.{blockSize, soundHeader, blockCount, fullBytes, laneLength}
-use Rattle.expull.specs.Blocks.{blockPlace, goodBlocks, fullBlocks, laneBytes}
-use Rattle.expull.proofs.Laws.Header.{sound-facts, length-parts, length-most}
-use Rattle.expull.proofs.Laws.Blocks.{blocks-fewer, block-good, block-in, length-full, full-within, place-more, lastOf}
+use Rattle.expull_header.specs.declared.Header.{Header}
+use Rattle.expull_header.specs.Header.{blockSize, soundHeader, blockCount, fullBytes, laneLength}
+use Rattle.expull_walk.specs.Blocks.{blockPlace, goodBlocks, fullBlocks, laneBytes}
+use Rattle.expull_header.proofs.Laws.{sound-facts, length-parts, length-most}
+use Rattle.expull_walk.proofs.Laws.{blocks-fewer, block-good, block-in, length-full, full-within, place-more, lastOf}
 use Rattle.reading_run.specs.declared.Run.{Run}
 use Rattle.reading_run.specs.Run.{Out, out, begun, runOf}
 use Rattle.reading_run.proofs.Turns.{run-append, run-none, Kept, run-keeps}

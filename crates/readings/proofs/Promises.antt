@@ -10,15 +10,16 @@ use lib.ListN.{length}
 use lib.IntN.{ℤ}
 use borrow.Author.Tests.{le-leb}
 use Rattle.limits.specs.Refusals.{lookingUp, unvinting, refusalNumbers, isAmong, permitted, numberIn, one-outcome}
-use Rattle.expull.specs.Blocks.{laneBytes}
-use Rattle.store.specs.declared.State.{State}
-use Rattle.store.specs.declared.Appended.the-variants.{Declined}
-use Rattle.store.specs.declared.Lookup.{Lookup}
-use Rattle.store.specs.declared.Lookup.the-variants.{At, Missing, Failed}
-use Rattle.store.specs.Said.{saidLookup}
-use Rattle.store.specs.Look.{Lent, lookupOf, headerOf, blocksSound}
-use Rattle.store.specs.Append.{declined}
-use Rattle.store.proofs.Fair.{fair-lookup}
+use Rattle.expull_walk.specs.Blocks.{laneBytes}
+use Rattle.store_state.specs.declared.State.{State}
+use Rattle.store_append.specs.declared.Appended.the-variants.{Declined}
+use Rattle.store_look.specs.declared.Lookup.{Lookup}
+use Rattle.store_look.specs.declared.Lookup.the-variants.{At, Missing, Failed}
+use Rattle.store_look.specs.Said.{saidLookup}
+use Rattle.records.specs.Record.{headerOf}
+use Rattle.store_look.specs.Look.{Lent, lookupOf, blocksSound}
+use Rattle.store_append.specs.Append.{declined}
+use Rattle.store_look.proofs.Fair.{fair-lookup}
 use Rattle.store.proofs.Promises.{promises as store-promises}
 use Rattle.reading_run.specs.Readings.{readingBytes, Split, vintsOf, readingsIn}
 use Rattle.reading_run.proofs.Split.{refusals-listed}

@@ -8,13 +8,13 @@ use lib.ListN.{replicate}
 use lib.IntN.{ℤ, pos, negsuc}
 use Rattle.limits.specs.Refusals.{answered, refused, accepted, someReadings, absent}
 use Rattle.spans.specs.Span.{overwrite}
-use Rattle.store.specs.declared.State.{State}
-use Rattle.store.specs.declared.Appended.{Appended}
-use Rattle.store.specs.declared.Appended.the-variants.{Accepted, Declined}
-use Rattle.store.specs.Said.{saidAppended}
-use Rattle.store.specs.Create.{freshState, createOf}
-use Rattle.store.specs.Look.{Lent, lent}
-use Rattle.store.specs.Append.{Out, out, appendOf}
+use Rattle.store_state.specs.declared.State.{State}
+use Rattle.store_append.specs.declared.Appended.{Appended}
+use Rattle.store_append.specs.declared.Appended.the-variants.{Accepted, Declined}
+use Rattle.store_append.specs.Said.{saidAppended}
+use Rattle.store_create.specs.Create.{freshState, createOf}
+use Rattle.store_look.specs.Look.{Lent, lent}
+use Rattle.store_append.specs.Append.{Out, out, appendOf}
 use Rattle.readings.specs.Readings.{readingsOf, appendReadingOf}
 use Rattle.readings.specs.Said.{saidRecalled}
 

@@ -7,10 +7,10 @@ use mathlib.Core.List.{List}
 use lib.ListN.{length}
 use lib.IntN.{ℤ}
 use Rattle.limits.specs.Refusals.{numberIn}
-use Rattle.store.specs.declared.State.{State}
-use Rattle.store.specs.declared.Appended.the-variants.{Declined}
-use Rattle.store.specs.Look.{Lent}
-use Rattle.store.specs.Append.{Out as Appending, declined}
+use Rattle.store_state.specs.declared.State.{State}
+use Rattle.store_append.specs.declared.Appended.the-variants.{Declined}
+use Rattle.store_look.specs.Look.{Lent}
+use Rattle.store_append.specs.Append.{Out as Appending, declined}
 use Rattle.readings.specs.declared.Recalled.the-variants.{Absent, Refused}
 use Rattle.readings.specs.Readings.{Out, out, readingsOf, appendReadingOf}
 use Rattle.readings.specs.Said.{saidRecalled}

@@ -9,12 +9,13 @@ use lib.Dec.{leb, eqb}
 use lib.ListN.{length, drop}
 use lib.IntN.{ℤ}
 use Rattle.vint.specs.Vint.{vintBytes}
-use Rattle.expull.specs.Blocks.{laneBytes}
-use Rattle.store.specs.declared.State.{State}
-use Rattle.store.specs.declared.Lookup.{Lookup}
-use Rattle.store.specs.declared.Lookup.the-variants.{At, Missing, Failed}
-use Rattle.store.specs.Look.{Lent, lookupOf, headerOf, blocksSound}
-use Rattle.store.specs.Append.{Out as Appending, appendOf}
+use Rattle.expull_walk.specs.Blocks.{laneBytes}
+use Rattle.store_state.specs.declared.State.{State}
+use Rattle.store_look.specs.declared.Lookup.{Lookup}
+use Rattle.store_look.specs.declared.Lookup.the-variants.{At, Missing, Failed}
+use Rattle.records.specs.Record.{headerOf}
+use Rattle.store_look.specs.Look.{Lent, lookupOf, blocksSound}
+use Rattle.store_append.specs.Append.{Out as Appending, appendOf}
 use Rattle.reading_run.specs.Readings.{readingBytes, Split, splitUp, vintsOf, readingsIn}
 use Rattle.readings.specs.declared.Recalled.{Recalled}
 use Rattle.readings.specs.declared.Recalled.the-variants.{Readings, Absent, Refused}

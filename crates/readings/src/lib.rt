@@ -4,27 +4,27 @@
 // vint, with an append's refusals; reading back gives the readings that the lane's bytes make, or refuses by 2, 3, 4,
 // then 8, then by the vint reader's number, and a refusal leaves every place of the output as it was. 8 and the vint
 // reader's number tell the count of whole readings. specs/Readings.antt is that. The lane's bytes are gone over twice,
-// to count and to write. It uses limits, numbers, spans, vint, signed, reading_run, memory_arena, shared_arena_hashmap,
-// expull and store.
-use expull::Header;
+// to count and to write. It uses limits, numbers, spans, vint, signed, reading_run, memory_arena, records,
+// shared_arena_hashmap, expull_header, expull_walk, store_state, store_create, store_look, store_append and store.
+use expull_header::Header;
 use memory_arena::Arena;
 use reading_run::Run;
-use store::Head;
-use store::Lookup;
-use store::State;
-use store::ToldAppend;
+use records::Head;
+use store_append::ToldAppend;
+use store_look::Lookup;
+use store_state::State;
 ghost use mathlib.Core.Path.{_≡_};
 ghost use mathlib.Core.Bool.{true};
 ghost use Prim.Native.Nat.{_+_, _≤_};
 ghost use lib.ListN.{length, take};
 ghost use Rattle.limits.specs.Refusals.{appendingReading, readingReadings, permitted};
 ghost use Rattle.memory_arena.specs.Calls.{sensible};
-ghost use Rattle.expull.specs.Header.{soundHeader, blockCount};
-ghost use Rattle.expull.specs.Blocks.{goodBlocks, laneBytes};
-ghost use Rattle.shared_arena_hashmap.specs.Probe.{valuePlace};
-ghost use Rattle.store.specs.Said.{saidAppended};
-ghost use Rattle.store.specs.Look.{lent, lookedOf};
-ghost use Rattle.store.specs.Append.{out as appendedOut, appendOf};
+ghost use Rattle.expull_header.specs.Header.{soundHeader, blockCount};
+ghost use Rattle.expull_walk.specs.Blocks.{goodBlocks, laneBytes};
+ghost use Rattle.records.specs.Record.{valuePlace};
+ghost use Rattle.store_append.specs.Said.{saidAppended};
+ghost use Rattle.store_look.specs.Look.{lent, lookedOf};
+ghost use Rattle.store_append.specs.Append.{out as appendedOut, appendOf};
 ghost use Rattle.reading_run.specs.Readings.{vintsOf};
 ghost use Rattle.reading_run.specs.Run.{out as runOut, begun, runOf, endOf};
 ghost use Rattle.readings.specs.Readings.{out, notFound, readingsAt, readingsOf, appendReadingOf};
@@ -60,14 +60,14 @@ fn take_lane(lists: &[u8], arena: Arena, h: Header, output: &mut [i32]) -> Run
     let mut place = h.head;
     let mut i = 0;
     while i < last {
-        let size = expull::headers::get_block_size(i + 3) as usize;
+        let size = expull_header::get_block_size(i + 3) as usize;
         let from = place as usize;
         let to = from + size;
         s = reading_run::take_bytes(s, &lists[from..to], output);
         place = spans::get_u32(lists, to);
         i += 1;
     }
-    let size = expull::headers::get_block_size(h.number);
+    let size = expull_header::get_block_size(h.number);
     let from = place as usize;
     let to = from + (size - h.remaining) as usize;
     reading_run::take_bytes(s, &lists[from..to], output)
@@ -101,11 +101,11 @@ fn readings_at(
         (now (output .entry)) ⌝ }
 {
     let arena = st.list_arena;
-    let head = store::get_head(keys, at);
+    let head = records::get_head(keys, at);
     let Head::Sound(h) = head else {
         return Recalled::Refused(4, 0);
     };
-    if !expull::walk::are_good_blocks(lists, arena, h.head, h.number - 2) {
+    if !expull_walk::are_good_blocks(lists, arena, h.head, h.number - 2) {
         return Recalled::Refused(4, 0);
     }
     let counted = count_lane(lists, arena, h);
@@ -148,7 +148,7 @@ pub fn readings(
     ensures walked { λ r. ⌜ r .walk
         ≡ lookedOf st (lent (now (table .entry)) (now (keys .entry)) (now (lists .entry))) (now (name .entry)) ⌝ }
 {
-    let looked = store::look::lookup(st, table, keys, lists, name);
+    let looked = store_look::lane::lookup(st, table, keys, lists, name);
     let walk = looked.walk;
     let found = looked.answer;
     let Lookup::At(at) = found else {
@@ -183,7 +183,7 @@ fn append_front(
     ensures walked { λ r. ⌜ r .walk
         ≡ lookedOf st (lent (now (table .entry)) (now (keys .entry)) (now (lists .entry))) (now (name .entry)) ⌝ }
 {
-    store::write::append(st, table, keys, lists, name, &bytes[0..n])
+    store_append::append(st, table, keys, lists, name, &bytes[0..n])
 }
 
 // Appends a reading to the lane of a name, behind the lane's last accepted one (0 where there is none), which the

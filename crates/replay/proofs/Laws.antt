@@ -9,12 +9,12 @@ use Rattle.limits.specs.Limits.{nameLimitFor}
 use Rattle.entries.specs.declared.Next.the-variants.{Whole, NoEntry}
 use Rattle.entries.specs.Form.{entryAt, Met, entriesFrom}
 use Rattle.entries.proofs.Laws.{entries-none, entries-whole}
-use Rattle.store.specs.declared.Created.{Created}
-use Rattle.store.specs.declared.Created.the-variants.{Made, Barred}
-use Rattle.store.specs.Create.{Out as Create·Out, out as Create·out, creatable}
-use Rattle.store.specs.Look.{Lent, lent}
-use Rattle.store.proofs.Whole.{create-made, create-barred}
-use Rattle.store.specs.declared.State.{State}
+use Rattle.store_create.specs.declared.Created.{Created}
+use Rattle.store_create.specs.declared.Created.the-variants.{Made, Barred}
+use Rattle.store_create.specs.Create.{Out as Create·Out, out as Create·out, creatable}
+use Rattle.store_look.specs.Look.{Lent, lent}
+use Rattle.store_create.proofs.Creation.{create-made, create-barred}
+use Rattle.store_state.specs.declared.State.{State}
 use Rattle.history.specs.History.{World, Call, play, Born, joined}
 use Rattle.history.specs.Promises.{ReadsAs}
 use Rattle.history.proofs.Born.{born-size}
@@ -107,7 +107,8 @@ module _ (capacity seed size : ℕ) (m : Lent) (s : List ℕ) where
       )
 
   -- what meets the second clause meets the first
-  replayed-is : (r : Created) (m′ : Lent) → Replayed capacity seed size m s r m′ → out r m′ ≡ replayOf capacity seed size m s
+  replayed-is : (r : Created) (m′ : Lent) → Replayed capacity seed size m s r m′
+      → out r m′ ≡ replayOf capacity seed size m s
   replayed-is (Barred n) m′ P = ap (out (Barred n)) (P .2) ∙ sym (ap onCreated (P .0))
   replayed-is (Made st) m′ P =
       let first : World = world (P .0 .state) (lent (P .0 .memory .table) (m .keys) (m .lists)) in

@@ -7,12 +7,12 @@ use lib.ListN.{length}
 use Rattle.spans.specs.Span.{readSpan}
 use Rattle.entries.specs.Log.{Entry}
 use Rattle.entries.specs.Form.{entriesOf}
-use Rattle.store.specs.declared.State.{State}
-use Rattle.store.specs.Create.{Out as Create·Out, out as Create·out, createOf}
-use Rattle.store.specs.Look.{Lent, lent}
+use Rattle.store_state.specs.declared.State.{State}
+use Rattle.store_create.specs.Create.{Out as Create·Out, out as Create·out, createOf}
+use Rattle.store_look.specs.Look.{Lent, lent}
 use Rattle.limits.specs.Limits.{nameLimitFor}
-use Rattle.store.specs.declared.Created.{Created}
-use Rattle.store.specs.declared.Created.the-variants.{Made, Barred}
+use Rattle.store_create.specs.declared.Created.{Created}
+use Rattle.store_create.specs.declared.Created.the-variants.{Made, Barred}
 use Rattle.history.specs.History.{World, Call, appends, after, play, Born, joined}
 use Rattle.history.specs.Promises.{ReadsAs}
 

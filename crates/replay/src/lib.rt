@@ -3,16 +3,16 @@
 //
 // It promises demand 3 of running code: whatever the script holds, each name then reads as its accepted appends joined
 // in order, and as absent where there was none; and every lent byte and word is what the appends leave one by one.
-// specs/Script.antt says which appends a script holds. It uses limits, spans, entries (the form of a script), store and
-// history, and the crates of the store's types.
+// specs/Script.antt says which appends a script holds. It uses limits, spans, entries (the form of a script),
+// store_state, store_create, store_look, store_append and history, and the crates of the store's types.
 use entries::Next;
-use store::Appended;
-use store::Created;
-use store::State;
+use store_append::Appended;
+use store_create::Created;
+use store_state::State;
 ghost use mathlib.Core.Path.{_≡_};
 ghost use Prim.Native.Nat.{_≤_};
 ghost use lib.ListN.{length};
-ghost use Rattle.store.specs.Look.{lent};
+ghost use Rattle.store_look.specs.Look.{lent};
 ghost use Rattle.history.specs.History.{play, stateAfter};
 ghost use Rattle.replay.specs.Script.{world, callsOf, played, out, replayOf, Replayed};
 
@@ -43,7 +43,7 @@ fn play_entry(
         ≡ played st (lent (now (table .entry)) (now (keys .entry)) (now (lists .entry))) (now (script .entry))
         name «name_end» from to ⌝ }
 {
-    let a = store::write::append(
+    let a = store_append::append(
         st,
         table,
         keys,
@@ -110,7 +110,7 @@ pub fn replay(
         (lent (now (table .entry)) (now (keys .entry)) (now (lists .entry))) (now (script .entry))
         r (lent (now (table .exit)) (now (keys .exit)) (now (lists .exit))) ⌝ }
 {
-    let made = store::create::create(capacity, seed, size, table, keys, lists);
+    let made = store_create::create(capacity, seed, size, table, keys, lists);
     let Created::Made(st) = made else {
         return made;
     };

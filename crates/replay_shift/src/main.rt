@@ -3,12 +3,12 @@
 //
 // A script's bytes stand in the input as hex: for each append name length (2 bytes, little-endian), name, byte length
 // (4), bytes. It promises only that it ends and stays in bounds; what a replay leaves, crate replay promises. The file
-// stdout has the answers of oracle/replay.py. It uses limits, memory_arena and store (for the state), replay, text,
-// say, script, bench_state, bench_areas, bench_read, and the kit's io.
+// stdout has the answers of oracle/replay.py. It uses limits, numbers, memory_arena, store_state and store_create (for
+// the state), replay, text, say, script, bench_state, bench_areas, bench_read, and the kit's io.
 use script::lines;
 use script::rows;
-use store::Created;
-use store::State;
+use store_create::Created;
+use store_state::State;
 use text::fault;
 use text::words;
 
@@ -28,7 +28,7 @@ struct Shift {
 
 // `script BYTES`: more of the next script.
 fn gather(s: Shift, line: &[u8], script: &mut [u8]) -> Shift {
-    let n = text::least(s.gathered, script.len());
+    let n = numbers::least(s.gathered, script.len());
     let st = s.st;
     let got = words::bytes(line, 1, &mut script[n..]);
     if got.fault != 0 {
@@ -71,7 +71,7 @@ fn play_script(
         say::fault(fault);
         return s;
     }
-    let n = text::least(s.gathered, script.len());
+    let n = numbers::least(s.gathered, script.len());
     let st = s.st;
     let made = replay::replay(
         g.a as usize,

@@ -12,12 +12,12 @@ use borrow.Author.Tests.{le-leb, lt-leb}
 use Rattle.limits.specs.Refusals.{listingBuckets, reporting, refusalNumbers, isAmong, permitted}
 use Rattle.spans.specs.Span.{overwrite}
 use Rattle.spans.proofs.Laws.{length-overwrite, overwrite-append}
-use Rattle.store.specs.declared.State.{State}
-use Rattle.store.specs.declared.Listed.{Listed}
-use Rattle.store.specs.declared.Listed.the-variants.{Bucket, NoMore, Stopped}
-use Rattle.store.specs.Look.{Lent, checked, blocksSound, nextOf}
-use Rattle.store.specs.Said.{saidListed}
-use Rattle.store.proofs.Fair.{fair-next}
+use Rattle.store_state.specs.declared.State.{State}
+use Rattle.store_look.specs.declared.Listed.{Listed}
+use Rattle.store_look.specs.declared.Listed.the-variants.{Bucket, NoMore, Stopped}
+use Rattle.store_look.specs.Look.{Lent, checked, blocksSound, nextOf}
+use Rattle.store_look.specs.Said.{saidListed}
+use Rattle.store_look.proofs.Fair.{fair-next}
 use Rattle.report_text.specs.Text.{Lane as Text·Lane, newline, storeLine, termsWord, totalWord, endLine, totalOf}
 use Rattle.report_text.specs.Text.{decimal, lanesText, headText, reportText}
 use Rattle.report_lanes.proofs.Measured.{the-type}
@@ -29,8 +29,7 @@ use Rattle.report.specs.Said.{saidReported}
 use Rattle.report_lanes.specs.Lanes.{Gathered, gathered, halted, laneBefore, laneAt, onListed, gatherFrom, gatherAll}
 use Rattle.report.specs.Report.{Out, out, onGathered, reportOf}
 use Rattle.report_lanes.specs.Measure.{measuredOf}
-use Rattle.report.specs.Write.{haltedOf}
-use Rattle.report.specs.Write.{lanesOf, lanesMet}
+use Rattle.report.specs.Write.{haltedOf, lanesOf, lanesMet}
 use Rattle.report.proofs.Written.{head-long}
 
 module _ (st : State) (m : Lent) (output : List ℕ) where

@@ -12,22 +12,21 @@ use Rattle.numbers.proofs.Tests.{both}
 use Rattle.spans.specs.Span.{readSpan, overwrite}
 use Rattle.spans.proofs.Laws.{length-overwrite, length-span, span-within, read-written, overwrite-all, overwrite-append}
 use Rattle.spans.proofs.Laws.{overwrite-none, part-back}
-use Rattle.expull.specs.declared.Header.{Header}
-use Rattle.expull.specs.Header.{laneLength, blockCount}
-use Rattle.expull.specs.Blocks.{goodBlocks, laneBytes}
-use Rattle.expull.proofs.Laws.Blocks.{lane-bytes-length}
-use Rattle.store.specs.declared.State.{State}
-use Rattle.store.specs.declared.Answer.{Answer}
-use Rattle.store.specs.Look.{Lent, checked, headerOf, headerSound, blocksSound, Read, reading, readAt}
-use Rattle.store.proofs.Found.{head-found, head-sound}
+use Rattle.expull_header.specs.declared.Header.{Header}
+use Rattle.expull_header.specs.Header.{laneLength, blockCount}
+use Rattle.expull_walk.specs.Blocks.{goodBlocks, laneBytes}
+use Rattle.expull_walk.proofs.Laws.{lane-bytes-length}
+use Rattle.store_state.specs.declared.State.{State}
+use Rattle.store_look.specs.declared.Answer.{Answer}
+use Rattle.records.specs.Record.{headerOf, headerSound, keyLength, keyAt, valuePlace}
+use Rattle.store_look.specs.Look.{Lent, checked, blocksSound, Read, reading, readAt}
+use Rattle.records.proofs.Laws.{head-found, head-sound}
 use Rattle.report_text.specs.Text.{Lane as Text·Lane, newline, storeLine, termsWord, totalWord, headText, termWord}
 use Rattle.report_text.specs.Text.{lenWord, bytesWord, hex, decimal, line, laneText, lanesText}
 use Rattle.report_text.proofs.Values.{hex-length}
-use Rattle.shared_arena_hashmap.specs.Probe.{keyLength, keyAt, valuePlace}
 use Rattle.report_lanes.specs.declared.NextLane.the-variants.{Lane}
 use Rattle.report_lanes.specs.Lanes.{Gathered, gathered, halted, laneBefore, laneAt, gatherFrom, gatherAll}
-use Rattle.report_lanes.specs.Measure.{nextLaneOf, laneSize}
-use Rattle.report_lanes.specs.Measure.{Standing}
+use Rattle.report_lanes.specs.Measure.{nextLaneOf, laneSize, Standing}
 use Rattle.report.specs.Write.{lanesMet}
 use Rattle.report_lanes.proofs.Measuring.{Turn, turn, lane-long}
 

@@ -6,12 +6,12 @@ use mathlib.Core.List.{List, [], _∷_, _++_}
 use lib.ListN.{replicate}
 use Rattle.limits.specs.Refusals.{answered, refused, aReport}
 use Rattle.spans.specs.Span.{overwrite}
-use Rattle.store.specs.declared.State.{State}
-use Rattle.store.specs.declared.Appended.{Appended}
-use Rattle.store.specs.declared.Appended.the-variants.{Accepted, Declined}
-use Rattle.store.specs.Create.{freshState, createOf}
-use Rattle.store.specs.Look.{Lent, lent}
-use Rattle.store.specs.Append.{appendOf}
+use Rattle.store_state.specs.declared.State.{State}
+use Rattle.store_append.specs.declared.Appended.{Appended}
+use Rattle.store_append.specs.declared.Appended.the-variants.{Accepted, Declined}
+use Rattle.store_create.specs.Create.{freshState, createOf}
+use Rattle.store_look.specs.Look.{Lent, lent}
+use Rattle.store_append.specs.Append.{appendOf}
 use Rattle.report_text.specs.Cases.{empty-text, a-text}
 use Rattle.report.specs.Report.{reportOf}
 use Rattle.report.specs.Said.{saidReported}

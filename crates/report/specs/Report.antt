@@ -6,9 +6,9 @@ use mathlib.Core.List.{List}
 use lib.Dec.{leb}
 use lib.ListN.{length}
 use Rattle.spans.specs.Span.{overwrite}
-use Rattle.store.specs.declared.State.{State}
-use Rattle.store.specs.State.{wholeState}
-use Rattle.store.specs.Look.{Lent, checked}
+use Rattle.store_state.specs.declared.State.{State}
+use Rattle.store_state.specs.State.{wholeState}
+use Rattle.store_look.specs.Look.{Lent, checked}
 use Rattle.report_text.specs.Text.{reportText}
 use Rattle.report_lanes.specs.Lanes.{Gathered, gathered, halted, gatherFrom, gatherAll}
 use Rattle.report.specs.declared.Reported.{Reported}

@@ -2,7 +2,7 @@
 use Prim.Native.Nat.{ℕ}
 use mathlib.Core.List.{List, [], _∷_}
 use Rattle.limits.specs.Refusals.{Said, answered, refused, aReport}
-use Rattle.store.specs.Said.{toldWith}
+use Rattle.store_look.specs.Said.{toldWith}
 use Rattle.report.specs.declared.Reported.{Reported}
 use Rattle.report.specs.declared.Reported.the-variants.{Written, Refused}
 

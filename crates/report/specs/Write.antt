@@ -4,8 +4,8 @@ use mathlib.Core.Path.{_≡_}
 use mathlib.Core.Bool.{true}
 use mathlib.Core.List.{List, []}
 use lib.ListN.{length}
-use Rattle.store.specs.declared.State.{State}
-use Rattle.store.specs.Look.{Lent, checked}
+use Rattle.store_state.specs.declared.State.{State}
+use Rattle.store_look.specs.Look.{Lent, checked}
 use Rattle.report_text.specs.Text.{Lane, lanesText}
 use Rattle.report_lanes.specs.declared.Measured.{Measured}
 use Rattle.report_lanes.specs.declared.Measured.the-variants.{Sums, Halted}

@@ -2,19 +2,20 @@
 //
 // It promises, for any state, any lent memory and any output: 2, then 4 for any lane's record, header or block, then 8
 // with the bytes needed, and nothing is written; else the text of the lanes at the output's front, and no byte behind
-// it. specs/Report.antt is that. It uses store, report_text, report_put and report_lanes.
+// it. specs/Report.antt is that. It uses store_state, store_create, store_look, store_append, report_text, report_put
+// and report_lanes.
 use report_lanes::Measured;
 use report_lanes::NextLane;
-use store::State;
+use store_state::State;
 ghost use mathlib.Core.Path.{_≡_};
 ghost use mathlib.Core.Bool.{true};
 ghost use Prim.Native.Nat.{_+_, _^_, _≤_, _<_};
 ghost use lib.ListN.{length};
 ghost use Rattle.limits.specs.Refusals.{reporting, permitted};
 ghost use Rattle.spans.specs.Span.{overwrite};
-ghost use Rattle.shared_arena_hashmap.specs.Probe.{keyLength};
-ghost use Rattle.expull.specs.Blocks.{laneBytes};
-ghost use Rattle.store.specs.Look.{lent, headerOf};
+ghost use Rattle.records.specs.Record.{keyLength, headerOf};
+ghost use Rattle.expull_walk.specs.Blocks.{laneBytes};
+ghost use Rattle.store_look.specs.Look.{lent};
 ghost use Rattle.report_text.specs.Text.{decimal, hex, laneText, lanesText, headText};
 ghost use Rattle.report_lanes.specs.Lanes.{laneAt};
 ghost use Rattle.report_lanes.specs.Measure.{laneSize, Standing};
@@ -45,7 +46,7 @@ fn write_bytes(
 {
     let mid = p + n;
     let end = mid + n;
-    store::look::read_at(st, table, keys, lists, at, &mut output[mid..end]);
+    store_look::lane::read_at(st, table, keys, lists, at, &mut output[mid..end]);
     report_put::spread(&mut output[p..end], n);
 }
 
@@ -147,7 +148,7 @@ pub fn report(st: State, table: &[u32], keys: &[u8], lists: &[u8], output: &mut 
         ≡ reportOf st (lent (now (table .entry)) (now (keys .entry)) (now (lists .entry))) (now (output .entry)) ⌝ }
     ensures numbered { λ r. ⌜ permitted reporting (saidReported r) ≡ true ⌝ }
 {
-    if !store::check::is_whole_state(st, table.len(), keys.len(), lists.len()) {
+    if !store_state::is_whole_state(st, table.len(), keys.len(), lists.len()) {
         return Reported::Refused(2, 0);
     }
     let m = report_lanes::measure(st, table, keys, lists);

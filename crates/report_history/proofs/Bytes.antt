@@ -7,10 +7,10 @@ use lib.ListN.{take, drop}
 use Rattle.limits.specs.Limits.{freshNumber}
 use Rattle.numbers.specs.LittleEndian.{Bytes}
 use Rattle.spans.specs.Span.{readSpan}
-use Rattle.shared_arena_hashmap.specs.Probe.{keyLength, keyAt}
-use Rattle.expull.specs.declared.Header.{Header}
-use Rattle.expull.specs.Header.{blockSize, blockCount}
-use Rattle.expull.specs.Blocks.{fullBlocks, laneBytes, blockPlace}
+use Rattle.records.specs.Record.{keyLength, keyAt}
+use Rattle.expull_header.specs.declared.Header.{Header}
+use Rattle.expull_header.specs.Header.{blockSize, blockCount}
+use Rattle.expull_walk.specs.Blocks.{fullBlocks, laneBytes, blockPlace}
 
 bytes-take : (n : ℕ) (m : List ℕ) → Bytes m → Bytes (take n m)
 bytes-take zero m h = tt

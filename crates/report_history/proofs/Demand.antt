@@ -13,15 +13,15 @@ use Rattle.limits.specs.Limits.{nameLimit, bucketLimit, name-within}
 use Rattle.numbers.specs.LittleEndian.{Bytes}
 use Rattle.spans.specs.Span.{readSpan, overwrite}
 use Rattle.spans.proofs.Laws.{read-written}
-use Rattle.shared_arena_hashmap.specs.Probe.{keyAt}
-use Rattle.expull.specs.Header.{laneLength}
-use Rattle.expull.specs.Blocks.{laneBytes}
-use Rattle.store.specs.declared.Lookup.the-variants.{At, Missing, Failed}
-use Rattle.store.specs.declared.Listed.{Listed}
-use Rattle.store.specs.declared.Listed.the-variants.{Bucket, NoMore, Stopped}
-use Rattle.store.specs.Name.{nameLimitOf}
-use Rattle.store.specs.Look.{checked, headerOf, blocksSound, lookupOf, nextOf}
-use Rattle.store.proofs.Whole.{whole-facts, buckets-few}
+use Rattle.records.specs.Record.{keyAt, headerOf}
+use Rattle.expull_header.specs.Header.{laneLength}
+use Rattle.expull_walk.specs.Blocks.{laneBytes}
+use Rattle.store_look.specs.declared.Lookup.the-variants.{At, Missing, Failed}
+use Rattle.store_look.specs.declared.Listed.{Listed}
+use Rattle.store_look.specs.declared.Listed.the-variants.{Bucket, NoMore, Stopped}
+use Rattle.store_state.specs.Name.{nameLimitOf}
+use Rattle.store_look.specs.Look.{checked, blocksSound, lookupOf, nextOf}
+use Rattle.store_state.proofs.Whole.{whole-facts, buckets-few}
 use Rattle.history_names.specs.Listing.{times}
 use Rattle.history.specs.History.{World, Call, Born, play, joined, among, acceptedNames}
 use Rattle.history.specs.Promises.{listedOn, listedFrom, listedPlaces, listedNames, ReadsAs}
@@ -225,7 +225,8 @@ module _ (w : World) (calls : List Call) (D : Demand3 w calls) where
   }
 
 -- ONE: a report of a store with a history reads back as the same lanes in order
-pub reports-back : (capacity seed size : ℕ) (table keys lists : List ℕ) (w : World) → Born capacity seed size table keys lists w
+pub reports-back : (capacity seed size : ℕ) (table keys lists : List ℕ) (w : World)
+    → Born capacity seed size table keys lists w
     → (calls : List Call) → (ls : List Lane) × ReportsBack w calls ls
 reports-back capacity seed size table keys lists w B calls =
     let D = demand-3 capacity seed size table keys lists w B calls in

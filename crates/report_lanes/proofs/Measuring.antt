@@ -17,23 +17,24 @@ use Rattle.memory_arena.specs.Calls.{sensible}
 use Rattle.shared_arena_hashmap.specs.declared.Next.{Next}
 use Rattle.shared_arena_hashmap.specs.declared.Next.the-variants.{Occupied, NoMore as NoBucket}
 use Rattle.shared_arena_hashmap.specs.Buckets.{emptyAt, addressAt}
-use Rattle.shared_arena_hashmap.specs.Probe.{keyLength, keyAt, goodRecord, valuePlace, occupiedFrom}
-use Rattle.shared_arena_hashmap.proofs.Laws.{good-record-in}
-use Rattle.expull.specs.declared.Header.{Header}
-use Rattle.expull.specs.Header.{soundHeader, laneLength, blockCount}
-use Rattle.expull.specs.Blocks.{goodBlocks, laneBytes}
-use Rattle.expull.proofs.Laws.Header.{length-most}
-use Rattle.expull.proofs.Laws.Blocks.{lane-bytes-length}
-use Rattle.store.specs.declared.State.{State}
-use Rattle.store.specs.declared.Outcome.the-variants.{Reading}
-use Rattle.store.specs.declared.Answer.{Answer}
-use Rattle.store.specs.declared.Answer.the-variants.{Found, Refused}
-use Rattle.store.specs.declared.Listed.{Listed}
-use Rattle.store.specs.declared.Listed.the-variants.{Bucket, NoMore, Stopped}
-use Rattle.store.specs.State.{firstOf}
-use Rattle.store.specs.Look.{Lent, checked, headerOf, headerSound, blocksSound, Read, reading, readAt, onNext, nextOf}
-use Rattle.store.proofs.Found.{Headed, head-found, head-sound, next-on}
-use Rattle.store.proofs.Whole.{whole-facts, buckets-few}
+use Rattle.records.specs.Record.{keyLength, keyAt, goodRecord, valuePlace, headerOf, headerSound}
+use Rattle.shared_arena_hashmap.specs.Probe.{occupiedFrom}
+use Rattle.records.proofs.Laws.{good-record-in, Headed, head-found, head-sound}
+use Rattle.expull_header.specs.declared.Header.{Header}
+use Rattle.expull_header.specs.Header.{soundHeader, laneLength, blockCount}
+use Rattle.expull_walk.specs.Blocks.{goodBlocks, laneBytes}
+use Rattle.expull_header.proofs.Laws.{length-most}
+use Rattle.expull_walk.proofs.Laws.{lane-bytes-length}
+use Rattle.store_state.specs.declared.State.{State}
+use Rattle.store_look.specs.declared.Outcome.the-variants.{Reading}
+use Rattle.store_look.specs.declared.Answer.{Answer}
+use Rattle.store_look.specs.declared.Answer.the-variants.{Found, Refused}
+use Rattle.store_look.specs.declared.Listed.{Listed}
+use Rattle.store_look.specs.declared.Listed.the-variants.{Bucket, NoMore, Stopped}
+use Rattle.store_state.specs.State.{firstOf}
+use Rattle.store_look.specs.Look.{Lent, checked, blocksSound, Read, reading, readAt, onNext, nextOf}
+use Rattle.store_look.proofs.Found.{next-on}
+use Rattle.store_state.proofs.Whole.{whole-facts, buckets-few}
 use Rattle.report_text.specs.Text.{Lane as Text·Lane, hex, digits, decimal, totalOf, laneText, lanesText}
 use Rattle.report_text.proofs.Values.{hex-length}
 use Rattle.report_lanes.proofs.NextLane.{the-type}
@@ -43,9 +44,8 @@ use Rattle.report_lanes.specs.declared.Measured.{Measured}
 use Rattle.report_lanes.specs.declared.Measured.the-variants.{Sums, Halted}
 use Rattle.report_lanes.specs.Lanes.{Gathered, gathered, halted, laneBefore, laneAt, onListed, gatherFrom}
 use Rattle.report_lanes.specs.Lanes.{gatherAll}
-use Rattle.report_lanes.specs.Measure.{Standing}
-use Rattle.report_lanes.specs.Measure.{onAnswer, metOf, onNextLane, nextLaneOf, laneSize, measuredOf, overOf}
-use Rattle.report_lanes.specs.Measure.{Small, Few}
+use Rattle.report_lanes.specs.Measure.{Standing, onAnswer, metOf, onNextLane, nextLaneOf, laneSize, measuredOf}
+use Rattle.report_lanes.specs.Measure.{overOf, Small, Few}
 
 -- ---- the record at a place
 

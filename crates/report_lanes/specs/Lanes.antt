@@ -3,12 +3,12 @@
 use Prim.Native.Nat.{ℕ, zero, suc, _+_}
 use mathlib.Core.Bool.{cond}
 use mathlib.Core.List.{List, [], _∷_}
-use Rattle.shared_arena_hashmap.specs.Probe.{keyAt}
-use Rattle.expull.specs.Blocks.{laneBytes}
-use Rattle.store.specs.declared.State.{State}
-use Rattle.store.specs.declared.Listed.{Listed}
-use Rattle.store.specs.declared.Listed.the-variants.{Bucket, NoMore, Stopped}
-use Rattle.store.specs.Look.{Lent, headerOf, blocksSound, nextOf}
+use Rattle.records.specs.Record.{keyAt, headerOf}
+use Rattle.expull_walk.specs.Blocks.{laneBytes}
+use Rattle.store_state.specs.declared.State.{State}
+use Rattle.store_look.specs.declared.Listed.{Listed}
+use Rattle.store_look.specs.declared.Listed.the-variants.{Bucket, NoMore, Stopped}
+use Rattle.store_look.specs.Look.{Lent, blocksSound, nextOf}
 use Rattle.report_text.specs.Text.{Lane, lane}
 
 -- RULES AA4. The lanes that were met, or a refusal's number.

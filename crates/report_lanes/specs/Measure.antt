@@ -7,16 +7,16 @@ use mathlib.Core.List.{List}
 use lib.Dec.{eqb}
 use lib.ListN.{length}
 use Rattle.memory_arena.specs.Calls.{sensible}
-use Rattle.shared_arena_hashmap.specs.Probe.{keyLength, valuePlace}
-use Rattle.expull.specs.Header.{laneLength}
-use Rattle.store.specs.declared.State.{State}
-use Rattle.store.specs.declared.Outcome.{Outcome}
-use Rattle.store.specs.declared.Outcome.the-variants.{Length, Reading, Block, NoSuchBlock}
-use Rattle.store.specs.declared.Answer.{Answer}
-use Rattle.store.specs.declared.Answer.the-variants.{Absent, Found, Refused}
-use Rattle.store.specs.declared.Listed.{Listed}
-use Rattle.store.specs.declared.Listed.the-variants.{Bucket, NoMore, Stopped}
-use Rattle.store.specs.Look.{Lent, headerOf, blocksSound, nextOf}
+use Rattle.records.specs.Record.{keyLength, valuePlace, headerOf}
+use Rattle.expull_header.specs.Header.{laneLength}
+use Rattle.store_state.specs.declared.State.{State}
+use Rattle.store_look.specs.declared.Outcome.{Outcome}
+use Rattle.store_look.specs.declared.Outcome.the-variants.{Length, Reading, Block, NoSuchBlock}
+use Rattle.store_look.specs.declared.Answer.{Answer}
+use Rattle.store_look.specs.declared.Answer.the-variants.{Absent, Found, Refused}
+use Rattle.store_look.specs.declared.Listed.{Listed}
+use Rattle.store_look.specs.declared.Listed.the-variants.{Bucket, NoMore, Stopped}
+use Rattle.store_look.specs.Look.{Lent, blocksSound, nextOf}
 use Rattle.report_text.specs.Text.{totalOf, decimal, lanesText}
 use Rattle.report_lanes.specs.declared.NextLane.{NextLane}
 use Rattle.report_lanes.specs.declared.NextLane.the-variants.{Lane, NoLane, Halt}

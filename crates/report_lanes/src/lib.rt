@@ -4,21 +4,20 @@
 // specs/Lanes.antt says which lanes a report has, or which damage ends it. The functions that are public here have
 // `requires`: they are inner functions of the crate report, which has made the whole-state check. It uses the store's
 // listing and its reading through a record.
-use store::Answer;
-use store::Listed;
-use store::Outcome;
-use store::State;
+use store_look::Answer;
+use store_look::Listed;
+use store_look::Outcome;
+use store_state::State;
 ghost use mathlib.Core.Path.{_≡_};
 ghost use mathlib.Core.Bool.{true};
 ghost use Prim.Native.Nat.{_+_, _≤_, _<_};
 ghost use lib.ListN.{length};
 ghost use Rattle.memory_arena.specs.Calls.{sensible};
-ghost use Rattle.shared_arena_hashmap.specs.Probe.{valuePlace};
-ghost use Rattle.store.specs.Look.{lent, checked};
+ghost use Rattle.records.specs.Record.{valuePlace};
+ghost use Rattle.store_look.specs.Look.{lent, checked};
 ghost use Rattle.report_lanes.specs.Lanes.{gatherAll};
 ghost use Rattle.report_lanes.specs.Measure.{onOutcome, onAnswer, metOf, nextLaneOf, laneSize, measuredOf};
-ghost use Rattle.report_lanes.specs.Measure.{overOf};
-ghost use Rattle.report_lanes.specs.Measure.{Small, Few};
+ghost use Rattle.report_lanes.specs.Measure.{overOf, Small, Few};
 
 // The next lane: its bucket, its record's place, the bytes of its name and its own; or none; or a refusal's number.
 pub enum NextLane {
@@ -69,8 +68,8 @@ fn meet(st: State, table: &[u32], keys: &[u8], lists: &[u8], i: usize, at: u32) 
         × Small (st .buckets) r ⌝ }
 {
     let mut none = [0u8; 1];
-    let r = store::look::read_at(st, table, keys, lists, at, &mut none[0..0]);
-    let name = shared_arena_hashmap::key_length(keys, at);
+    let r = store_look::lane::read_at(st, table, keys, lists, at, &mut none[0..0]);
+    let name = records::key_length(keys, at);
     on_answer(r, i, at, name as u64)
 }
 
@@ -80,7 +79,7 @@ pub fn next_lane(st: State, table: &[u32], keys: &[u8], lists: &[u8], index: usi
     ensures { λ r. ⌜ (r ≡ nextLaneOf st (lent (now (table .entry)) (now (keys .entry)) (now (lists .entry))) index)
         × Small (st .buckets) r ⌝ }
 {
-    let next = store::look::next_occupied(st, table, keys, lists, index);
+    let next = store_look::listing::next_occupied(st, table, keys, lists, index);
     match next {
         Listed::Bucket(i, at) => meet(st, table, keys, lists, i, at),
         Listed::NoMore => NextLane::NoLane,

@@ -16,10 +16,9 @@ use Rattle.fastcmp.proofs.Laws.{equal-both}
 use Rattle.report_text.specs.Text.{Lane, lane, totalOf, storeLine, termsWord, totalWord, termWord, lenWord, bytesWord}
 use Rattle.report_text.specs.Text.{endLine, hex}
 use Rattle.report_text.specs.Reader.{Lines, ended, unended, linesOf, andThen, numberIn, bytesIn, bytesOf, named}
-use Rattle.report_text.specs.Reader.{Expects}
-use Rattle.report_text.specs.Reader.{aStore, aTerms, aTotal, aLane, aLength, someBytes, nothing, provided, nameTaken}
-use Rattle.report_text.specs.Reader.{endTaken, bytesTaken, lineRead, Told, lanes, bad, restRead, orBad, linesRead}
-use Rattle.report_text.specs.Reader.{textRead}
+use Rattle.report_text.specs.Reader.{Expects, aStore, aTerms, aTotal, aLane, aLength, someBytes, nothing, provided}
+use Rattle.report_text.specs.Reader.{nameTaken, endTaken, bytesTaken, lineRead, Told, lanes, bad, restRead, orBad}
+use Rattle.report_text.specs.Reader.{linesRead, textRead}
 use Rattle.report_text.proofs.Values.{hex-back, hex-length}
 use Rattle.report_text.proofs.Forms.{bytes-form}
 use Rattle.report_read.specs.declared.check.Progress.{Progress}

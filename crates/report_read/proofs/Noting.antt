@@ -168,7 +168,8 @@ module _ (t l : List ℕ) (L : Lines) (p : Progress) (notes : List ℕ) (maybe :
       no q = omega (arith, e, ap (λ (x : Progress). x .expected) q)
   vouched N (aLane k n seen) R D e = λ m x b.
       let f = bytes-form termWord l x b in
-      let u = free-unnamed notes seen x D (subst (λ (y : List ℕ). marked notes (noteOf y) ≡ false) (f .0) (N .free m)) in
+      let u = free-unnamed notes seen x D
+      (subst (λ (y : List ℕ). marked notes (noteOf y) ≡ false) (f .0) (N .free m)) in
       ap (λ (q : Progress). seenAmong (q .lanes) l t (firstLane t)) (R .0) ∙ name-seen t l L seen x (R .2) b ∙ u
   vouched N (aLength k n seen x) R D e = absurd (no (R .0))
     where
@@ -205,7 +206,8 @@ module _ (t l : List ℕ) (L : Lines) (p : Progress) (notes : List ℕ) (maybe :
       name e =
           let x = then-some (bytesIn termWord l) (λ (y : List ℕ). nameTaken k n seen y) s′ e in
           let f = bytes-form termWord l (x .0) (x .1) in
-          let y = provided-some (leb (length (x .0)) nameLimit && not (named (x .0) seen)) (aLength k n seen (x .0)) s′ (x .2) in
+          let y = provided-some (leb (length (x .0)) nameLimit && not (named (x .0) seen)) (aLength k n seen (x .0)) s′
+          (x .2) in
           let h = H (ap (λ (q : Progress). q .expected) (R .0)) in
           subst (NotedIn notes′) (y .1) (
             each-grows notes notes′ seen G D,
@@ -255,7 +257,8 @@ module _ (t l : List ℕ) (L : Lines) (p : Progress) (notes : List ℕ) (maybe :
           onward (M .size) (M .grows) (λ z. M .here) (lineRead (N .state) l) refl related
       which (no e) =
           let z = noted-not e o in
-          onward (ap length (sym z)) (subst (Grows notes) z (λ j h. h)) (λ h. absurd (e h)) (lineRead (N .state) l) refl related
+          onward (ap length (sym z)) (subst (Grows notes) z (λ j h. h)) (λ h. absurd (e h))
+          (lineRead (N .state) l) refl related
 
 -- ---- the code of a note
 

@@ -60,7 +60,8 @@ fn is_seen(text: &[u8], lanes: u64, line: &[u8]) -> bool
 // through: else a report of many lanes would take time by the square of their number.
 fn was_seen(text: &[u8], p: Progress, line: &[u8], maybe: bool) -> bool
     requires { ⌜ (maybe ≡ false → seenAmong (p .lanes) (now line) (now text) (firstLane (now text)) ≡ false) ⌝ }
-    ensures { λ r. ⌜ r ≡ seenAmong (p .lanes) (now (line .entry)) (now (text .entry)) (firstLane (now (text .entry))) ⌝ }
+    ensures { λ r. ⌜ r ≡ seenAmong (p .lanes) (now (line .entry)) (now (text .entry))
+        (firstLane (now (text .entry))) ⌝ }
 {
     if !maybe {
         return false;

@@ -6,9 +6,9 @@ use report::Reported;
 use report_read::check::Checked;
 use report_read::pick::Picked;
 use report_read::unhex::Unhexed;
-use store::Appended;
-use store::Created;
-use store::State;
+use store_append::Appended;
+use store_create::Created;
+use store_state::State;
 ghost use Prim.Native.Nat.{_≤_, _<_};
 ghost use lib.ListN.{length};
 
@@ -128,7 +128,7 @@ fn finish(st: State, table: &[u32], keys: &[u8], lists: &[u8], output: &mut [u8]
 }
 
 fn go_on(st: State, table: &mut [u32], keys: &mut [u8], lists: &mut [u8], output: &mut [u8]) {
-    let added = store::write::append(st, table, keys, lists, b"A", b"\x01\x02\x03");
+    let added = store_append::append(st, table, keys, lists, b"A", b"\x01\x02\x03");
     let answer = added.answer;
     let Appended::Accepted(next) = answer else {
         return;
@@ -137,7 +137,7 @@ fn go_on(st: State, table: &mut [u32], keys: &mut [u8], lists: &mut [u8], output
 }
 
 fn play(table: &mut [u32], keys: &mut [u8], lists: &mut [u8], output: &mut [u8]) {
-    let made = store::create::create(1, 7, limits::PAGE_SIZE, table, keys, lists);
+    let made = store_create::create(1, 7, limits::PAGE_SIZE, table, keys, lists);
     let Created::Made(st) = made else {
         return;
     };

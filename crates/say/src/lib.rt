@@ -1,7 +1,7 @@
 // Answers to the lines of a script, on standard output.
 //
 // It promises that each call ends and stays inside what is lent, and asks nothing of its callers; what is written goes
-// through a C function whose contract the kit assumes. It uses text, and the kit's io and libc.
+// through a C function whose contract the kit assumes. It uses numbers and text, and the kit's io and libc.
 use libc::STDOUT_FILENO;
 ghost use Prim.Native.Nat.{_*_, _≤_};
 ghost use lib.ListN.{length};
@@ -75,7 +75,7 @@ fn lay_out(bytes: &[u8], into: &mut [u8])
 
 // At most 2,048 bytes as hex pairs, laid out in an area of 4,096.
 fn some_pairs(bytes: &[u8], into: &mut [u8]) {
-    let n = 2 * text::least(bytes.len(), into.len() / 2);
+    let n = 2 * numbers::least(bytes.len(), into.len() / 2);
     let k = n / 2;
     lay_out(&bytes[0..k], into);
     text(&into[0..n]);
@@ -85,7 +85,7 @@ fn pairs(bytes: &[u8]) {
     let mut into = io::buffer();
     let mut at = 0;
     while at < bytes.len() {
-        let end = at + text::least(bytes.len() - at, 2048);
+        let end = at + numbers::least(bytes.len() - at, 2048);
         some_pairs(&bytes[at..end], &mut into);
         at = end;
     }
@@ -127,7 +127,7 @@ pub fn kept(area: &[u8]) {
 
 // What was written to an output's front, and whether what is behind it is as it was; it ends the line.
 pub fn written(n: usize, output: &[u8]) {
-    let k = text::least(n, output.len());
+    let k = numbers::least(n, output.len());
     text(b" ");
     bytes(&output[0..k]);
     kept(&output[k..])

@@ -32,8 +32,8 @@ pub fn all() -> Lines {
 fn hold(l: Lines, part: &[u8], line: &mut [u8]) -> Lines
     ensures { λ r. ⌜ r .left ≤ l .left ⌝ }
 {
-    let n = text::least(l.held, line.len());
-    let k = text::least(part.len(), line.len() - n);
+    let n = numbers::least(l.held, line.len());
+    let k = numbers::least(part.len(), line.len() - n);
     let long = l.long;
     fastcpy::copy_in(line, n, &part[0..k]);
     let mut next = l;
@@ -46,7 +46,7 @@ fn hold(l: Lines, part: &[u8], line: &mut [u8]) -> Lines
 fn take(l: Lines, chunk: &[u8], line: &mut [u8]) -> Lines
     ensures { λ r. ⌜ r .left ≤ l .left ⌝ }
 {
-    let from = text::least(l.from, chunk.len());
+    let from = numbers::least(l.from, chunk.len());
     let end = text::scan::find(chunk, from, b'\n');
     let mut next = hold(l, &chunk[from..end], line);
     next.whole = end < chunk.len();
@@ -83,7 +83,7 @@ fn refill(l: Lines, chunk: &mut [u8]) -> Lines
 fn step(l: Lines, chunk: &mut [u8], line: &mut [u8]) -> Lines
     ensures { λ r. ⌜ r .left ≤ l .left ⌝ }
 {
-    let to = text::least(l.to, chunk.len());
+    let to = numbers::least(l.to, chunk.len());
     if l.from < to {
         return take(l, &chunk[0..to], line);
     }
@@ -123,6 +123,6 @@ pub fn next(l: Lines, chunk: &mut [u8], line: &mut [u8]) -> Lines
 
 // The bytes that are held of a line.
 pub fn held<'l>(l: Lines, line: &'l [u8]) -> &'l [u8] {
-    let n = text::least(l.held, line.len());
+    let n = numbers::least(l.held, line.len());
     &line[0..n]
 }

@@ -11,16 +11,13 @@ use lib.Bits.{bitAnd, and-mask}
 use lib.Pow.{pow-pos, pow-mono}
 use lib.ListN.{length, set, take, drop}
 use borrow.Author.Tests.{le-leb, lt-leb, leb-true, leb-false, eq-eqb, eqb-true}
-use Rattle.limits.specs.Limits.{bucketLimit, nullAddress, recordExtra}
-use Rattle.numbers.proofs.Tests.{both, left-false, cond-true, cond-false}
+use Rattle.limits.specs.Limits.{bucketLimit, nullAddress}
+use Rattle.numbers.proofs.Tests.{cond-true, cond-false}
 use Rattle.spans.specs.Span.{readSpan}
 use Rattle.spans.proofs.Laws.{length-overwrite, overwrite-append, overwrite-none, store-one, store-next}
 use Rattle.fastcmp.specs.Equal.{equalBytes}
 use Rattle.fastcmp.proofs.Laws.{equal-true}
 use Rattle.memory_arena.specs.declared.Arena.{Arena}
-use Rattle.memory_arena.specs.Pages.{goodSpan}
-use Rattle.memory_arena.specs.Calls.{sensible}
-use Rattle.memory_arena.proofs.Laws.{good-in, sensible-facts}
 use Rattle.shared_arena_hashmap.specs.declared.Seen.{Seen}
 use Rattle.shared_arena_hashmap.specs.declared.Seen.the-variants.{Nothing, Same, Broken, Other}
 use Rattle.shared_arena_hashmap.specs.declared.Met.the-variants.{Standing, Lap}
@@ -28,7 +25,9 @@ use Rattle.shared_arena_hashmap.specs.declared.Walk.{Walk}
 use Rattle.shared_arena_hashmap.specs.declared.Next.the-variants.{Occupied, NoMore}
 use Rattle.shared_arena_hashmap.specs.Power.{doubled, roundedDown, powerOfTwo, grownLength}
 use Rattle.shared_arena_hashmap.specs.Buckets.{addressAt, hashAt, emptyAt, withBucket, emptyBuckets, cleared}
-use Rattle.shared_arena_hashmap.specs.Probe.{keyLength, goodRecord, keyAt, seenRecord, seenAt, startOf, nextBucket, walked, onSeen, probe, lookup, occupiedFrom}
+use Rattle.records.specs.Record.{keyLength, goodRecord, keyAt}
+use Rattle.shared_arena_hashmap.specs.Probe.{seenRecord, seenAt, startOf, nextBucket, walked, onSeen, probe}
+use Rattle.shared_arena_hashmap.specs.Probe.{lookup, occupiedFrom}
 use Rattle.shared_arena_hashmap.specs.Grow.{freeFrom, freeOf, entered, reentered, allReentered, grown}
 
 -- two constructors are never equal
@@ -73,13 +72,15 @@ unfolding doubled
 doubled-near zero c p h = h
 doubled-near (suc n) c p h = go (leb (2 * p) c) refl (doubled-near n c (2 * p))
   where
-    go : (t : Bool) → leb (2 * p) c ≡ t → (c < 2 ^ suc n * (2 * p) → c < 2 * doubled n c (2 * p)) → c < 2 * cond t (doubled n c (2 * p)) p
+    go : (t : Bool) → leb (2 * p) c ≡ t → (c < 2 ^ suc n * (2 * p) → c < 2 * doubled n c (2 * p))
+        → c < 2 * cond t (doubled n c (2 * p)) p
     go true e f = f (rw (← mul-assoc, mul-comm (2 ^ suc n) 2, ← pow-succ') h)
     go false e f = leb-false _ _ e
 
 -- doubling reaches a power of two that is not too far
 doubled-exact : (n j k : ℕ) → j ≤ k → k ≤ j + n → doubled n (2 ^ k) (2 ^ j) ≡ 2 ^ k
-doubled-exact zero j k h g = let e : k ≡ j = omega arith in rw e (doubled-stop 0 (2 ^ j) (2 ^ j) (omega (arith, pow-pos j)))
+doubled-exact zero j k h g =
+    let e : k ≡ j = omega arith in rw e (doubled-stop 0 (2 ^ j) (2 ^ j) (omega (arith, pow-pos j)))
 doubled-exact (suc n) j k h g = go (leb (suc j) k) refl (doubled-exact n (suc j) k)
   where
     go : (t : Bool) → leb (suc j) k ≡ t → (suc j ≤ k → k ≤ suc j + n → doubled n (2 ^ k) (2 ^ suc j) ≡ 2 ^ k)
@@ -129,7 +130,8 @@ rounded-near c h = doubled-near 64 c 1 (omega arith)
 
 -- growth keeps a table's length a power of two
 pub grown-is-power : (l : ℕ) → powerOfTwo l ≡ true → l ≤ bucketLimit → powerOfTwo (grownLength l) ≡ true
-grown-is-power l e h = power-made (grownLength l) (go (power-facts l e) (leb 64 (power-facts l e .exponent)) refl (leb 4 l) refl)
+grown-is-power l e h =
+    power-made (grownLength l) (go (power-facts l e) (leb 64 (power-facts l e .exponent)) refl (leb 4 l) refl)
   where
     go : (w : Power l) (t : Bool) → leb 64 (w .exponent) ≡ t → (u : Bool) → leb 4 l ≡ u → Power (grownLength l)
     go w true p u q =
@@ -178,11 +180,14 @@ masked l x e =
 -- ---- buckets written
 
 -- two stores, as code has them
-pub stored-bucket : (b address hash : ℕ) (t : List ℕ) → set (set t (2 * b) address) (2 * b + 1) hash ≡ withBucket b address hash t
+pub stored-bucket : (b address hash : ℕ) (t : List ℕ)
+    → set (set t (2 * b) address) (2 * b + 1) hash ≡ withBucket b address hash t
 unfolding withBucket
-stored-bucket b address hash t = rw (store-one (2 * b) address t) (store-next (2 * b) (address ∷ []) t hash (2 * b + 1) refl)
+stored-bucket b address hash t =
+    rw (store-one (2 * b) address t) (store-next (2 * b) (address ∷ []) t hash (2 * b + 1) refl)
 
-pub cleared-turn : (b n : ℕ) (t : List ℕ) → 0 < n → cleared b n t ≡ cleared (b + 1) (n - 1) (withBucket b nullAddress 0 t)
+pub cleared-turn : (b n : ℕ) (t : List ℕ) → 0 < n
+    → cleared b n t ≡ cleared (b + 1) (n - 1) (withBucket b nullAddress 0 t)
 unfolding cleared withBucket emptyBuckets
 cleared-turn b zero t k = absurd (not-suc-le-zero k)
 cleared-turn b (suc n) t k =
@@ -206,7 +211,8 @@ pub free-end : (t : List ℕ) (first l n i : ℕ) → n ≡ 0 → freeFrom t fir
 unfolding freeFrom
 free-end t first l n i e = rw e
 
-pub reenter-turn : (n b first l : ℕ) (t : List ℕ) → 0 < n → allReentered n b first l t ≡ allReentered (n - 1) (b + 1) first l (reentered b first l t)
+pub reenter-turn : (n b first l : ℕ) (t : List ℕ) → 0 < n
+    → allReentered n b first l t ≡ allReentered (n - 1) (b + 1) first l (reentered b first l t)
 unfolding allReentered
 reenter-turn zero b first l t h = absurd (not-suc-le-zero h)
 reenter-turn (suc n) b first l t h = let q : suc n - 1 ≡ n = omega arith in rw q
@@ -216,7 +222,8 @@ unfolding allReentered
 reenter-end n b first l t e = rw e
 
 -- a table cleared and then re-entered, as code has it
-pub grown-code : (n old first l : ℕ) (t s r : List ℕ) → s ≡ cleared first l t → r ≡ allReentered n old first l s → r ≡ grown n old first l t
+pub grown-code : (n old first l : ℕ) (t s r : List ℕ) → s ≡ cleared first l t → r ≡ allReentered n old first l s
+    → r ≡ grown n old first l t
 unfolding grown
 grown-code n old first l t s r e f = rw (f, e)
 
@@ -244,43 +251,29 @@ length-entered first l address hash t =
 pub length-reentered : (b first l : ℕ) (t : List ℕ) → length (reentered b first l t) ≡ length t
 unfolding reentered
 length-reentered b first l t =
-    length-cond (emptyAt t b) t (entered first l (addressAt t b) (hashAt t b) t) t refl (length-entered first l (addressAt t b) (hashAt t b) t)
+    length-cond (emptyAt t b) t (entered first l (addressAt t b) (hashAt t b) t) t refl
+    (length-entered first l (addressAt t b) (hashAt t b) t)
 
 pub length-all-reentered : (n b first l : ℕ) (t : List ℕ) → length (allReentered n b first l t) ≡ length t
 unfolding allReentered
 length-all-reentered zero b first l t = refl
-length-all-reentered (suc n) b first l t = length-all-reentered n (b + 1) first l (reentered b first l t) ∙ length-reentered b first l t
+length-all-reentered (suc n) b first l t =
+    length-all-reentered n (b + 1) first l (reentered b first l t) ∙ length-reentered b first l t
 
 pub length-grown : (n old first l : ℕ) (t : List ℕ) → length (grown n old first l t) ≡ length t
 unfolding grown
 length-grown n old first l t = length-all-reentered n old first l (cleared first l t) ∙ length-cleared first l t
 
--- ---- records
-
-pub record-short : (a : Arena) (keys : List ℕ) (at : ℕ) → goodSpan a at 2 ≡ false → goodRecord a keys at ≡ false
-unfolding goodRecord
-record-short a keys at e = left-false _ _ e
-
-pub record-whole : (a : Arena) (keys : List ℕ) (at n : ℕ) → goodSpan a at 2 ≡ true → n ≡ keyLength keys at
-    → goodSpan a at (n + recordExtra) ≡ goodRecord a keys at
-unfolding goodRecord
-record-whole a keys at n e f = rw (e, f)
-
--- a good record lies in the key pages
-pub good-record-in : (a : Arena) (keys : List ℕ) (at : ℕ) → sensible a (length keys) ≡ true → goodRecord a keys at ≡ true
-    → at + (keyLength keys at + recordExtra) ≤ length keys
-unfolding goodRecord
-good-record-in a keys at s g =
-    good-in a at (keyLength keys at + recordExtra) (length keys) (sensible-facts a (length keys) s .stands)
-    (both (goodSpan a at 2) (goodSpan a at (keyLength keys at + recordExtra)) g .1)
-
 -- the record against a name, as code has it: the key is a part from a start to an end
-pub seen-broken : (keys : List ℕ) (a : Arena) (at : ℕ) (name : List ℕ) → goodRecord a keys at ≡ false → seenRecord keys a at name ≡ Broken
+pub seen-broken : (keys : List ℕ) (a : Arena) (at : ℕ) (name : List ℕ) → goodRecord a keys at ≡ false
+    → seenRecord keys a at name ≡ Broken
 unfolding seenRecord
 seen-broken keys a at name e = cond-false _ _ _ e
 
-pub seen-good : (keys : List ℕ) (a : Arena) (at : ℕ) (name : List ℕ) (n : ℕ) (u : Bool) → goodRecord a keys at ≡ true → n ≡ keyLength keys at
-    → equalBytes (take (at + 2 + n - (at + 2)) (drop (at + 2) keys)) name ≡ u → seenRecord keys a at name ≡ cond u (Same at) Other
+pub seen-good : (keys : List ℕ) (a : Arena) (at : ℕ) (name : List ℕ) (n : ℕ) (u : Bool) → goodRecord a keys at ≡ true
+    → n ≡ keyLength keys at
+    → equalBytes (take (at + 2 + n - (at + 2)) (drop (at + 2) keys)) name ≡ u
+    → seenRecord keys a at name ≡ cond u (Same at) Other
 unfolding seenRecord keyAt readSpan
 seen-good keys a at name n u e f g =
     let k : at + 2 + n - (at + 2) ≡ keyLength keys at = omega arith in
@@ -296,7 +289,8 @@ seen-record : (keys : List ℕ) (a : Arena) (at x : ℕ) (name : List ℕ) → s
 unfolding seenRecord
 seen-record keys a at x name e = go (goodRecord a keys at) refl (equalBytes (keyAt keys at) name) refl e
   where
-    go : (t : Bool) → goodRecord a keys at ≡ t → (u : Bool) → equalBytes (keyAt keys at) name ≡ u → cond t (cond u (Same at) Other) Broken ≡ Same x
+    go : (t : Bool) → goodRecord a keys at ≡ t → (u : Bool) → equalBytes (keyAt keys at) name ≡ u
+        → cond t (cond u (Same at) Other) Broken ≡ Same x
         → HasKey a keys x name
     go true p true q f = let z : at ≡ x = cc in (rw z at p, rw z at (equal-true (keyAt keys at) name q))
     go true p false q f = clash (cc)
@@ -307,7 +301,8 @@ seen-bucket : (t keys : List ℕ) (a : Arena) (b hash x : ℕ) (name : List ℕ)
 unfolding seenAt
 seen-bucket t keys a b hash x name e = go (emptyAt t b) (eqb (hashAt t b) hash) e
   where
-    go : (v u : Bool) → cond v Nothing (cond u (seenRecord keys a (addressAt t b) name) Other) ≡ Same x → HasKey a keys x name
+    go : (v u : Bool) → cond v Nothing (cond u (seenRecord keys a (addressAt t b) name) Other) ≡ Same x
+        → HasKey a keys x name
     go true u f = clash (cc)
     go false true f = seen-record keys a (addressAt t b) x name f
     go false false f = clash (cc)
@@ -317,7 +312,8 @@ seen-bucket t keys a b hash x name e = go (emptyAt t b) (eqb (hashAt t b) hash) 
 -- a turn, by what the bucket was seen to be
 pub probe-turn : (t keys : List ℕ) (a : Arena) (first l hash : ℕ) (name : List ℕ) (n i k : ℕ) (r s : Seen) → 0 < n
     → r ≡ seenAt t keys a (first + i) hash name → r ≡ s
-    → probe t keys a first l hash name n i k ≡ onSeen s (k + 1) (probe t keys a first l hash name (n - 1) (nextBucket l i) (k + 1))
+    → probe t keys a first l hash name n i k
+    ≡ onSeen s (k + 1) (probe t keys a first l hash name (n - 1) (nextBucket l i) (k + 1))
 unfolding probe
 probe-turn t keys a first l hash name zero i k r s h e f = absurd (not-suc-le-zero h)
 probe-turn t keys a first l hash name (suc n) i k r s h e f = let q : suc n - 1 ≡ n = omega arith in rw (q, ← e, f)
@@ -328,7 +324,8 @@ unfolding probe
 probe-end t keys a first l hash name n i k e = rw e
 
 probe-looked : (t keys : List ℕ) (a : Arena) (first l hash : ℕ) (name : List ℕ) (n i k : ℕ)
-    → (k + min 1 n ≤ probe t keys a first l hash name n i k .looked) × (probe t keys a first l hash name n i k .looked ≤ k + n)
+    → (k + min 1 n ≤ probe t keys a first l hash name n i k .looked)
+    × (probe t keys a first l hash name n i k .looked ≤ k + n)
 unfolding probe
 probe-looked t keys a first l hash name zero i k = (omega arith, omega arith)
 probe-looked t keys a first l hash name (suc n) i k =
@@ -376,7 +373,8 @@ record-bounds t keys a first l hash name at e = probe-met t keys a first l hash 
 -- a turn and the end, k buckets on from i
 pub occupied-turn : (t : List ℕ) (first n i k : ℕ) → k < n
     → occupiedFrom t first (n - k) (i + k)
-    ≡ cond (emptyAt t (first + (i + k))) (occupiedFrom t first (n - (k + 1)) (i + (k + 1))) (Occupied (i + k) (addressAt t (first + (i + k))))
+    ≡ cond (emptyAt t (first + (i + k))) (occupiedFrom t first (n - (k + 1)) (i + (k + 1)))
+    (Occupied (i + k) (addressAt t (first + (i + k))))
 unfolding occupiedFrom
 occupied-turn t first n i k h =
     let m : n - k ≡ suc (n - (k + 1)) = omega arith in

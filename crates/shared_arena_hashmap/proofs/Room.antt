@@ -20,8 +20,8 @@ use Rattle.shared_arena_hashmap.specs.declared.Seen.{Seen}
 use Rattle.shared_arena_hashmap.specs.declared.Seen.the-variants.{Nothing, Same, Broken, Other}
 use Rattle.shared_arena_hashmap.specs.declared.Met.the-variants.{Empty}
 use Rattle.shared_arena_hashmap.specs.declared.Walk.{Walk}
-use Rattle.shared_arena_hashmap.specs.Probe.{goodRecord, keyAt, seenRecord, seenAt, nextBucket, startOf, onSeen}
-use Rattle.shared_arena_hashmap.specs.Probe.{probe, lookup}
+use Rattle.records.specs.Record.{goodRecord, keyAt}
+use Rattle.shared_arena_hashmap.specs.Probe.{seenRecord, seenAt, nextBucket, startOf, onSeen, probe, lookup}
 use Rattle.shared_arena_hashmap.specs.Grow.{freeFrom, freeOf, entered, reentered, allReentered, grown}
 use Rattle.shared_arena_hashmap.proofs.Words.{bucket-other, bucket-address, bucket-hash, clear-address}
 

@@ -2,15 +2,11 @@
 -- lookup ends at an empty bucket (absent), at a bucket with equal hash and equal key, or after L buckets (absent)." A
 -- record that is no good span, met with equal hash, is damage.
 use Prim.Native.Nat.{ℕ, zero, suc, _+_, _%_}
-use mathlib.Core.Bool.{Bool, cond, _&&_}
+use mathlib.Core.Bool.{cond}
 use mathlib.Core.List.{List}
 use lib.Dec.{eqb}
-use Rattle.limits.specs.Limits.{recordExtra}
-use Rattle.numbers.specs.LittleEndian.{leNumber}
-use Rattle.spans.specs.Span.{readSpan}
 use Rattle.fastcmp.specs.Equal.{equalBytes}
 use Rattle.memory_arena.specs.declared.Arena.{Arena}
-use Rattle.memory_arena.specs.Pages.{goodSpan}
 use Rattle.shared_arena_hashmap.specs.declared.Seen.{Seen}
 use Rattle.shared_arena_hashmap.specs.declared.Seen.the-variants.{Nothing, Same, Broken, Other}
 use Rattle.shared_arena_hashmap.specs.declared.Met.{Met}
@@ -19,28 +15,7 @@ use Rattle.shared_arena_hashmap.specs.declared.Walk.{Walk}
 use Rattle.shared_arena_hashmap.specs.declared.Next.{Next}
 use Rattle.shared_arena_hashmap.specs.declared.Next.the-variants.{Occupied, NoMore}
 use Rattle.shared_arena_hashmap.specs.Buckets.{addressAt, hashAt, emptyAt}
-
--- ---- a record: the key length as 2 little-endian bytes, the key, a 16-byte value
-
--- RULES M4. The key length.
-unfoldable pub keyLength : List ℕ → ℕ → ℕ
-unfolding leNumber readSpan
-keyLength keys at = leNumber (readSpan at 2 keys)
-
--- RULES M5, W1. Its length bytes and then all of it are good spans.
-unfoldable pub goodRecord : Arena → List ℕ → ℕ → Bool
-unfolding keyLength goodSpan
-goodRecord a keys at = goodSpan a at 2 && goodSpan a at (keyLength keys at + recordExtra)
-
--- RULES M4. The key bytes start at the third byte of the record.
-unfoldable pub keyAt : List ℕ → ℕ → List ℕ
-unfolding keyLength readSpan
-keyAt keys at = readSpan (at + 2) (keyLength keys at) keys
-
--- RULES M4. The value starts behind the key.
-unfoldable pub valuePlace : List ℕ → ℕ → ℕ
-unfolding keyLength
-valuePlace keys at = at + 2 + keyLength keys at
+use Rattle.records.specs.Record.{goodRecord, keyAt}
 
 -- ---- a lookup
 
@@ -91,4 +66,5 @@ lookup t keys a first l hash name = probe t keys a first l hash name l (startOf 
 -- RULES N5. The first that isn't empty among n buckets from i on.
 unfoldable pub occupiedFrom : List ℕ → ℕ → ℕ → ℕ → Next
 occupiedFrom t first zero i = NoMore
-occupiedFrom t first (suc n) i = cond (emptyAt t (first + i)) (occupiedFrom t first n (i + 1)) (Occupied i (addressAt t (first + i)))
+occupiedFrom t first (suc n) i =
+    cond (emptyAt t (first + i)) (occupiedFrom t first n (i + 1)) (Occupied i (addressAt t (first + i)))

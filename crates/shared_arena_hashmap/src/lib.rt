@@ -1,8 +1,9 @@
 // The probing map over lent words: buckets, lookup, entering, growth and listing.
 //
-// It promises that each step is the one document 01 describes, as specs/ writes it down, on any words and any key pages: a lookup looks at
-// no more than L buckets and reads no record that isn't a good span. Its functions are inner ones: the store has made the whole-state check
-// before it calls, and what they ask of their caller is part of that check. It uses limits, numbers, spans, fastcmp and memory_arena.
+// It promises that each step is the one document 01 describes, as specs/ writes it down, on any words and any key
+// pages: a lookup looks at no more than L buckets and reads no record that isn't a good span. Its functions are inner
+// ones: the store has made the whole-state check before it calls, and what they ask of their caller is part of that
+// check. It uses limits, numbers, spans, fastcmp, memory_arena and records.
 pub mod grow;
 
 use memory_arena::Arena;
@@ -12,8 +13,7 @@ ghost use Prim.Native.Nat.{_+_, _*_, _≤_, _<_, _^_};
 ghost use lib.ListN.{length};
 ghost use Rattle.memory_arena.specs.Calls.{sensible};
 ghost use Rattle.shared_arena_hashmap.specs.Power.{roundedDown, powerOfTwo};
-ghost use Rattle.shared_arena_hashmap.specs.Probe.{keyLength, goodRecord, seenRecord, seenAt, startOf};
-ghost use Rattle.shared_arena_hashmap.specs.Probe.{nextBucket, lookup, occupiedFrom};
+ghost use Rattle.shared_arena_hashmap.specs.Probe.{seenRecord, seenAt, startOf, nextBucket, lookup, occupiedFrom};
 
 // What a bucket is to a lookup: empty, the name's own with its record's place, a broken record, or another's.
 pub enum Seen {
@@ -60,36 +60,15 @@ pub fn is_power_of_two(n: usize) -> bool
     compute_previous_power_of_two(n) == n
 }
 
-// Whether a record, its length bytes first, is a good span.
-pub fn is_good_record(keys: &[u8], arena: Arena, at: u32) -> bool
-    requires { ⌜ sensible arena (length (now keys)) ≡ true ⌝ }
-    ensures { λ r. ⌜ r ≡ goodRecord arena (now (keys .entry)) at ⌝ }
-{
-    if !memory_arena::is_good_span(arena, at, 2) {
-        return false;
-    }
-    let n = key_length(keys, at);
-    memory_arena::is_good_span(arena, at, n + limits::RECORD_EXTRA)
-}
-
-// The key length of a good record.
-pub fn key_length(keys: &[u8], at: u32) -> usize
-    requires { ⌜ at + 2 ≤ length (now keys) ⌝ }
-    ensures { λ r. ⌜ (r ≡ keyLength (now (keys .entry)) at) × (r < 2 ^ 16) ⌝ }
-{
-    let from = at as usize;
-    spans::get_u16(keys, from) as usize
-}
-
 // The key bytes are compared as a part of the page: from the record's place plus two.
 fn see_record(keys: &[u8], arena: Arena, at: u32, name: &[u8]) -> Seen
     requires { ⌜ sensible arena (length (now keys)) ≡ true ⌝ }
     ensures { λ r. ⌜ r ≡ seenRecord (now (keys .entry)) arena at (now (name .entry)) ⌝ }
 {
-    if !is_good_record(keys, arena, at) {
+    if !records::is_good_record(keys, arena, at) {
         return Seen::Broken;
     }
-    let n = key_length(keys, at);
+    let n = records::key_length(keys, at);
     let from = (at as usize) + 2;
     let to = from + n;
     let key = &keys[from..to];

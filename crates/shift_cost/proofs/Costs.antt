@@ -15,15 +15,16 @@ use Rattle.memory_arena.specs.declared.Arena.{Arena}
 use Rattle.memory_arena.specs.declared.Allocated.{Allocated}
 use Rattle.memory_arena.specs.declared.Allocated.the-variants.{At, NoRoom, Refused}
 use Rattle.memory_arena.specs.Pages.{roomFor}
-use Rattle.expull.specs.declared.Header.{Header}
-use Rattle.expull.specs.Header.{takenBytes, fresh}
-use Rattle.expull.specs.Append.{planned, planOf, isSome}
-use Rattle.store.specs.declared.Lookup.{Lookup}
-use Rattle.store.specs.Name.{nameLimitOf}
-use Rattle.store.specs.Look.{onLookup, lengthAt, lengthOf}
-use Rattle.store.specs.Append.{isCrowded}
-use Rattle.store.proofs.Guard.{kind-proper}
-use Rattle.store.proofs.Whole.{Whole, whole-facts, creatable-facts}
+use Rattle.expull_header.specs.declared.Header.{Header}
+use Rattle.expull_header.specs.Header.{takenBytes, fresh}
+use Rattle.expull_append.specs.Append.{planned, planOf, isSome}
+use Rattle.store_look.specs.declared.Lookup.{Lookup}
+use Rattle.store_state.specs.Name.{nameLimitOf}
+use Rattle.store_look.specs.Look.{onLookup, lengthAt, lengthOf}
+use Rattle.store_append.specs.Append.{isCrowded}
+use Rattle.store_state.proofs.Guard.{kind-proper}
+use Rattle.store_state.proofs.Whole.{Whole, whole-facts}
+use Rattle.store_create.proofs.Creation.{creatable-facts}
 use Rattle.history_names.specs.Listing.{times}
 use Rattle.history.specs.History.{World, Call, appends, looksUp, asksLength, reads, findsBlock, showsBlock}
 use Rattle.history.specs.History.{listsFrom, countsKeys, Born, accepts, play, Entry, entry, logged, logOf, askedBy}
@@ -35,8 +36,7 @@ use Rattle.history.proofs.Born.{born-start}
 use Rattle.history.proofs.Told.{times-none, among-end}
 use Rattle.history.proofs.Demand.{history, counts, names-exact, names-joined, reads-back, long-never, refusals-exact}
 use Rattle.lending.specs.Lending.{blockTail, takenAtMost, keyBytesFor}
-use Rattle.shift_cost.specs.Shift.{sumOf, overLanes, lengthIn, takenIn, toldLength}
-use Rattle.shift_cost.specs.Shift.{bytesOfAll, takenOfAll}
+use Rattle.shift_cost.specs.Shift.{sumOf, overLanes, lengthIn, takenIn, toldLength, bytesOfAll, takenOfAll}
 use Rattle.shift_cost.specs.Promises.{ShiftCosts, StaysWithin, LentFor, NeverRefused}
 use Rattle.shift_cost.proofs.Calls.{log-one, by-calls}
 use Rattle.shift_cost.proofs.Pages.{Holds, never-crammed, room-answers}

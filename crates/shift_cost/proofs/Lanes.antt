@@ -16,11 +16,10 @@ use Rattle.memory_arena.specs.declared.Allocated.{Allocated}
 use Rattle.memory_arena.specs.declared.Allocated.the-variants.{At, NoRoom, Refused}
 use Rattle.memory_arena.specs.Pages.{roomFor}
 use Rattle.memory_arena.proofs.Laws.{room-size}
-use Rattle.expull.specs.Header.{blockSize, fullBytes, takenBytes}
-use Rattle.expull.specs.Append.{planned, isSome, onRoomDry}
-use Rattle.expull.proofs.Laws.Header.{size-low, size-most, size-least, full-more}
-use Rattle.expull.proofs.Laws.Header.{full-closed-low, full-closed-high}
-use Rattle.expull.proofs.Laws.Blocks.{full-within}
+use Rattle.expull_header.specs.Header.{blockSize, fullBytes, takenBytes}
+use Rattle.expull_append.specs.Append.{planned, isSome, onRoomDry}
+use Rattle.expull_header.proofs.Laws.{size-low, size-most, size-least, full-more, full-closed-low, full-closed-high}
+use Rattle.expull_walk.proofs.Laws.{full-within}
 use Rattle.history_lanes.proofs.Room.{size-sum}
 use Rattle.history.specs.Due.{shapeOf}
 use Rattle.history.specs.Promises.{blocksFor}

@@ -10,8 +10,8 @@ use Rattle.limits.specs.Limits.{pageTaken, arenaLimitFor, bucketLimit, wordLimi
 use Rattle.numbers.proofs.Tests.{both, both-true}
 use Rattle.shared_arena_hashmap.specs.Power.{roundedDown, powerOfTwo}
 use Rattle.shared_arena_hashmap.proofs.Laws.{power-facts, rounded-is-power, rounded-near}
-use Rattle.store.specs.State.{lentBuckets}
-use Rattle.store.specs.Create.{creatable}
+use Rattle.store_state.specs.State.{lentBuckets}
+use Rattle.store_create.specs.Create.{creatable}
 use Rattle.lending.specs.declared.Lend.the-variants.{Areas, TooMuch, NoSuchPage}
 use Rattle.lending.specs.Lending.{listBytesFor, recordsOn, keyBytesFor, capacityFor, bucketsFor, asksFew, lendsFew}
 use Rattle.lending.specs.Lending.{areasFor, lendFor}

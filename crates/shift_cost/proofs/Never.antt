@@ -12,9 +12,9 @@ use borrow.Author.Tests.{leb-true, leb-false, le-leb}
 use Rattle.limits.specs.Limits.{bucketLimit}
 use Rattle.shared_arena_hashmap.specs.Power.{roundedDown, powerOfTwo, grownLength}
 use Rattle.shared_arena_hashmap.proofs.Laws.{Power, power-facts, rounded-is-power, rounded-near}
-use Rattle.store.specs.declared.State.{State}
-use Rattle.store.specs.State.{lentBuckets}
-use Rattle.store.specs.Append.{isCrowded}
+use Rattle.store_state.specs.declared.State.{State}
+use Rattle.store_state.specs.State.{lentBuckets}
+use Rattle.store_append.specs.Append.{isCrowded}
 use Rattle.history.specs.History.{Entry, joinedIn, namesIn}
 use Rattle.lending.specs.Lending.{takenAtMost, bucketsFor}
 use Rattle.shift_cost.specs.Shift.{sumOf, overLanes, lengthIn, withBytes, blocksIn, takenIn}

@@ -14,17 +14,16 @@ use Rattle.fastcmp.specs.Equal.{equalBytes}
 use Rattle.fastcmp.proofs.Laws.{equal-same}
 use Rattle.memory_arena.specs.declared.Arena.{Arena}
 use Rattle.shared_arena_hashmap.specs.Power.{roundedDown}
-use Rattle.expull.specs.declared.Header.{Header}
-use Rattle.expull.specs.Header.{fullBytes, takenBytes, fresh}
-use Rattle.expull.specs.Append.{planned, planOf}
-use Rattle.store.specs.declared.State.{State}
-use Rattle.store.specs.Append.{Out, grows, grownState, stateGrown}
-use Rattle.store.proofs.Whole.{whole-facts}
+use Rattle.expull_header.specs.declared.Header.{Header}
+use Rattle.expull_header.specs.Header.{fullBytes, takenBytes, fresh}
+use Rattle.expull_append.specs.Append.{planned, planOf}
+use Rattle.store_state.specs.declared.State.{State}
+use Rattle.store_append.specs.Append.{Out, grows, grownState, stateGrown}
+use Rattle.store_state.proofs.Whole.{whole-facts}
 use Rattle.history_lanes.specs.Lane.{content}
-use Rattle.history.specs.History.{World, Call, appends, looksUp, asksLength, reads, findsBlock, showsBlock}
-use Rattle.history.specs.History.{listsFrom, countsKeys, Born, appendIn, isAccepted, left, after, play}
-use Rattle.history.specs.History.{Entry, entry, logged, logOf, joinedOn, joined, isJoined, among, withName, namesIn}
-use Rattle.history.specs.History.{bytesIn}
+use Rattle.history.specs.History.{World, Call, appends, looksUp, asksLength, reads, findsBlock, showsBlock, listsFrom}
+use Rattle.history.specs.History.{countsKeys, Born, appendIn, isAccepted, left, after, play, Entry, entry, logged}
+use Rattle.history.specs.History.{logOf, joinedOn, joined, isJoined, among, withName, namesIn, bytesIn}
 use Rattle.history.specs.Due.{shapeOf}
 use Rattle.history.specs.Promises.{blocksFor}
 use Rattle.history.specs.Sound.{Ghosts, Sound}

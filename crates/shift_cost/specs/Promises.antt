@@ -8,9 +8,9 @@ use mathlib.Core.Bool.{true}
 use mathlib.Core.List.{List, [], _∷_, _++_}
 use lib.ListN.{length}
 use Rattle.limits.specs.Limits.{nameLimitFor, bucketLimit}
-use Rattle.store.specs.State.{lentBuckets}
-use Rattle.store.specs.Create.{creatable}
-use Rattle.store.specs.Look.{lengthOf}
+use Rattle.store_state.specs.State.{lentBuckets}
+use Rattle.store_create.specs.Create.{creatable}
+use Rattle.store_look.specs.Look.{lengthOf}
 use Rattle.history_lanes.specs.Lane.{usedEnd}
 use Rattle.history.specs.History.{World, Call, accepts, play, Entry, entry, logOf, askedFor, among, namesIn}
 use Rattle.history.specs.History.{bytesIn, acceptedBytes}

@@ -4,10 +4,10 @@ use Prim.Native.Nat.{ℕ, _+_}
 use mathlib.Core.Option.{Option, none, some}
 use mathlib.Core.List.{List, [], _∷_}
 use lib.ListN.{length}
-use Rattle.expull.specs.Header.{takenBytes}
-use Rattle.store.specs.declared.Answer.{Answer}
-use Rattle.store.specs.declared.Answer.the-variants.{Absent, Found, Refused}
-use Rattle.store.specs.declared.Outcome.the-variants.{Length, Reading, Block, NoSuchBlock}
+use Rattle.expull_header.specs.Header.{takenBytes}
+use Rattle.store_look.specs.declared.Answer.{Answer}
+use Rattle.store_look.specs.declared.Answer.the-variants.{Absent, Found, Refused}
+use Rattle.store_look.specs.declared.Outcome.the-variants.{Length, Reading, Block, NoSuchBlock}
 use Rattle.history.specs.History.{Entry, joinedIn, namesIn}
 use Rattle.history.specs.Promises.{blocksFor}
 

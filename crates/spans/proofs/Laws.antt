@@ -1,5 +1,5 @@
--- Laws of spans: lengths, reads of what was written and of what a write leaves alone, writes that meet, and how code's stores and
--- lent parts are such writes. Assumes nothing.
+-- Laws of spans: lengths, reads of what was written and of what a write leaves alone, writes that meet, and how code's
+-- stores and lent parts are such writes. Assumes nothing.
 use Prim.Native.Nat.{ℕ, zero, suc, _+_, _-_, _*_, _^_, _≤_, _<_}
 use mathlib.Core.Path.{_≡_, refl, sym, ap, _∙_}
 use mathlib.Core.Logic.{⊎-elim}
@@ -65,7 +65,8 @@ pub read-after : (q n p : ℕ) (bs m : List ℕ) → p + length bs ≤ q → rea
 unfolding readSpan
 read-after q n p bs m h = ap (take n) (drop-after q p bs m h)
 
-pub read-apart : (q n p : ℕ) (bs m : List ℕ) → Apart p (length bs) q n → readSpan q n (overwrite p bs m) ≡ readSpan q n m
+pub read-apart : (q n p : ℕ) (bs m : List ℕ) → Apart p (length bs) q n
+    → readSpan q n (overwrite p bs m) ≡ readSpan q n m
 read-apart q n p bs m d = ⊎-elim (read-after q n p bs m) (read-before q n p bs m) d
 
 -- ---- a read in pieces
@@ -113,7 +114,8 @@ read-extended p k bs m h =
     ∙ rw (read-written, read-before p k (p + k) bs m (omega arith))
 
 -- one write of two runs is a write of each
-pub overwrite-append : (p : ℕ) (bs cs m : List ℕ) → overwrite p (bs ++ cs) m ≡ overwrite (p + length bs) cs (overwrite p bs m)
+pub overwrite-append : (p : ℕ) (bs cs m : List ℕ)
+    → overwrite p (bs ++ cs) m ≡ overwrite (p + length bs) cs (overwrite p bs m)
 unfolding overwrite
 overwrite-append zero [] cs m = refl
 overwrite-append zero (b ∷ bs) cs [] = rw zero-add
@@ -123,12 +125,14 @@ overwrite-append (suc p) bs cs [] = rw suc-add
 overwrite-append (suc p) bs cs (x ∷ m) = rw suc-add (ap (λ (r : List ℕ). x ∷ r) (overwrite-append p bs cs m))
 
 -- writes that share no place may change places
-pub overwrite-swap : (p q : ℕ) (bs cs m : List ℕ) → p + length bs ≤ q → overwrite p bs (overwrite q cs m) ≡ overwrite q cs (overwrite p bs m)
+pub overwrite-swap : (p q : ℕ) (bs cs m : List ℕ) → p + length bs ≤ q
+    → overwrite p bs (overwrite q cs m) ≡ overwrite q cs (overwrite p bs m)
 unfolding overwrite
 overwrite-swap zero q [] cs m h = refl
 overwrite-swap zero zero (b ∷ bs) cs m h = absurd (omega arith)
 overwrite-swap zero (suc q) (b ∷ bs) cs [] h = refl
-overwrite-swap zero (suc q) (b ∷ bs) cs (x ∷ m) h = ap (λ (r : List ℕ). b ∷ r) (overwrite-swap zero q bs cs m (omega arith))
+overwrite-swap zero (suc q) (b ∷ bs) cs (x ∷ m) h =
+    ap (λ (r : List ℕ). b ∷ r) (overwrite-swap zero q bs cs m (omega arith))
 overwrite-swap (suc p) zero bs cs m h = absurd (omega arith)
 overwrite-swap (suc p) (suc q) bs cs [] h = refl
 overwrite-swap (suc p) (suc q) bs cs (x ∷ m) h = ap (λ (r : List ℕ). x ∷ r) (overwrite-swap p q bs cs m (omega arith))
@@ -159,7 +163,8 @@ overwrite-all (b ∷ bs) (x ∷ m) e = ap (λ (l : List ℕ). b ∷ l) (overwrit
 -- ---- from code: parts, stores, loops
 
 -- a write that fits, as a contract over parts says it
-pub overwrite-parts : (p : ℕ) (bs m : List ℕ) → p + length bs ≤ length m → overwrite p bs m ≡ take p m ++ (bs ++ drop (p + length bs) m)
+pub overwrite-parts : (p : ℕ) (bs m : List ℕ) → p + length bs ≤ length m
+    → overwrite p bs m ≡ take p m ++ (bs ++ drop (p + length bs) m)
 unfolding overwrite
 overwrite-parts zero [] m h = refl
 overwrite-parts zero (b ∷ bs) [] h = absurd (omega arith)
@@ -169,7 +174,8 @@ overwrite-parts (suc p) bs [] h = absurd (omega arith)
 overwrite-parts (suc p) bs (x ∷ m) h = rw suc-add (ap (λ (r : List ℕ). x ∷ r) (overwrite-parts p bs m (omega arith)))
 
 -- a part that was lent, from a to e, and has come back as ys
-pub part-back : (m : List ℕ) (a e : ℕ) (ys : List ℕ) → a ≤ e → e ≤ length m → length ys ≡ e - a → putMid a (e - a) m ys ≡ overwrite a ys m
+pub part-back : (m : List ℕ) (a e : ℕ) (ys : List ℕ) → a ≤ e → e ≤ length m → length ys ≡ e - a
+    → putMid a (e - a) m ys ≡ overwrite a ys m
 part-back m a e ys h k l =
     let q : a + length ys ≡ e = omega arith in
     rw (post-is a e m h, overwrite-parts a ys m (omega arith), q)
@@ -182,17 +188,20 @@ store-one zero b (x ∷ m) = refl
 store-one (suc p) b [] = refl
 store-one (suc p) b (x ∷ m) = ap (λ (l : List ℕ). x ∷ l) (store-one p b m)
 
-pub store-next : (p : ℕ) (bs m : List ℕ) (b q : ℕ) → q ≡ p + length bs → set (overwrite p bs m) q b ≡ overwrite p (bs ++ (b ∷ [])) m
+pub store-next : (p : ℕ) (bs m : List ℕ) (b q : ℕ) → q ≡ p + length bs
+    → set (overwrite p bs m) q b ≡ overwrite p (bs ++ (b ∷ [])) m
 store-next p bs m b q e = rw (overwrite-append, ← e) (store-one q b (overwrite p bs m))
 
 -- a turn of a loop that copies s to place p
-pub copy-turn : (p : ℕ) (s m : List ℕ) (i q : ℕ) → i < length s → q ≡ p + i → set (overwrite p (take i s) m) q (getD s i 0) ≡ overwrite p (take (suc i) s) m
+pub copy-turn : (p : ℕ) (s m : List ℕ) (i q : ℕ) → i < length s → q ≡ p + i
+    → set (overwrite p (take i s) m) q (getD s i 0) ≡ overwrite p (take (suc i) s) m
 copy-turn p s m i q h e =
     rw (take-suc s i 0) (store-next p (take i s) m (getD s i 0) q (omega (arith, length-take-le i s (omega arith))))
 
 -- stores one right after the other
 pub stores : (m : List ℕ) (p : ℕ) (bs : List ℕ) → p + length bs ≤ length m → sets m p bs ≡ overwrite p bs m
-stores m p bs h = sets-eq bs m p h ∙ append-assoc (take p m) bs (drop (p + length bs) m) ∙ sym (overwrite-parts p bs m h)
+stores m p bs h =
+    sets-eq bs m p h ∙ append-assoc (take p m) bs (drop (p + length bs) m) ∙ sym (overwrite-parts p bs m h)
 
 -- ---- numbers in a memory
 
@@ -204,7 +213,8 @@ span-2 p m h =
     ∙ ap (λ (l : List ℕ). getD m p 0 ∷ l) (span-cons (suc p) 0 m (omega arith)
     ∙ ap (λ (l : List ℕ). getD m (suc p) 0 ∷ l) (span-none (suc (suc p)) m)))
 
-pub span-4 : (p : ℕ) (m : List ℕ) → p + 4 ≤ length m → readSpan p 4 m ≡ getD m p 0 ∷ getD m (p + 1) 0 ∷ getD m (p + 2) 0 ∷ getD m (p + 3) 0 ∷ []
+pub span-4 : (p : ℕ) (m : List ℕ) → p + 4 ≤ length m
+    → readSpan p 4 m ≡ getD m p 0 ∷ getD m (p + 1) 0 ∷ getD m (p + 2) 0 ∷ getD m (p + 3) 0 ∷ []
 span-4 p m h =
     simp towards-suc
     (span-cons p 3 m (omega arith)
@@ -214,9 +224,11 @@ span-4 p m h =
     ∙ ap (λ (l : List ℕ). getD m (suc (suc (suc p))) 0 ∷ l) (span-none (suc (suc (suc (suc p)))) m)))))
 
 -- a number that was just written is read back
-pub number-back : (w p x : ℕ) (m : List ℕ) → p + w ≤ length m → x < 256 ^ w → leNumber (readSpan p w (overwrite p (leBytes w x) m)) ≡ x
+pub number-back : (w p x : ℕ) (m : List ℕ) → p + w ≤ length m → x < 256 ^ w
+    → leNumber (readSpan p w (overwrite p (leBytes w x) m)) ≡ x
 number-back w p x m h k =
-    let e : readSpan p w (overwrite p (leBytes w x) m) ≡ leBytes w x = rw length-le at (read-written p (leBytes w x) m (omega (arith, length-le w x))) in
+    let e : readSpan p w (overwrite p (leBytes w x) m) ≡ leBytes w x =
+    rw length-le at (read-written p (leBytes w x) m (omega (arith, length-le w x))) in
     rw e (le-round w x k)
 
 -- the number of two runs of bytes, one behind the other

@@ -14,7 +14,7 @@ use Rattle.numbers.proofs.Tests.{both}
 use Rattle.numbers.proofs.Laws.{length-le, le-bytes, le-number, le-round, le-same, le-below}
 use Rattle.spans.specs.Span.{readSpan, overwrite}
 use Rattle.spans.proofs.Laws.{overwrite-append, read-written, span-within, span-bytes, length-span}
-use Rattle.store.specs.declared.State.{State}
+use Rattle.store_state.specs.declared.State.{State}
 use Rattle.state_area.specs.Area.{areaSize, areaMark, numberAt, sensibleArea, stateAt, fourBytes, areaOf, Fits}
 
 -- ---- written

@@ -15,9 +15,9 @@ use Rattle.spans.proofs.Laws.{length-overwrite, read-after}
 use Rattle.memory_arena.specs.declared.Arena.{Arena}
 use Rattle.memory_arena.specs.Calls.{sensible}
 use Rattle.memory_arena.proofs.Laws.{sensible-facts, standing-facts}
-use Rattle.store.specs.declared.State.{State}
-use Rattle.store.specs.Look.{Lent, checked}
-use Rattle.store.proofs.Whole.{whole-facts, taken-facts}
+use Rattle.store_state.specs.declared.State.{State}
+use Rattle.store_look.specs.Look.{Lent, checked}
+use Rattle.store_state.proofs.Whole.{whole-facts, taken-facts}
 use Rattle.state_area.specs.Area.{areaSize, numberAt, sensibleArea, stateAt, fourBytes, areaOf, Fits}
 use Rattle.state_area.specs.Promises.{Promises}
 use Rattle.state_area.proofs.Back.{loaded-saved}

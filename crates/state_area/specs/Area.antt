@@ -9,7 +9,7 @@ use lib.ListN.{length}
 use Rattle.numbers.specs.LittleEndian.{leNumber, leBytes}
 use Rattle.spans.specs.Span.{readSpan}
 use Rattle.memory_arena.specs.declared.Arena.{Arena}
-use Rattle.store.specs.declared.State.{State}
+use Rattle.store_state.specs.declared.State.{State}
 
 -- RULES AK1. Bytes of the area.
 abbrev pub areaSize : ℕ

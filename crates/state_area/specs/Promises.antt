@@ -7,8 +7,8 @@ use mathlib.Core.List.{List}
 use lib.ListN.{length}
 use Rattle.numbers.specs.LittleEndian.{Bytes}
 use Rattle.spans.specs.Span.{readSpan, overwrite}
-use Rattle.store.specs.declared.State.{State}
-use Rattle.store.specs.Look.{Lent, checked}
+use Rattle.store_state.specs.declared.State.{State}
+use Rattle.store_look.specs.Look.{Lent, checked}
 use Rattle.state_area.specs.Area.{areaSize, sensibleArea, stateAt, areaOf, Fits}
 
 -- RULES AK3, AK4.

@@ -2,9 +2,10 @@
 //
 // It promises that a state written to an area is the state read from it, that such an area is sensible, and that only
 // its 64 bytes are written; docs/LAYOUT.md has the layout, specs/Area.antt the definition. Whether the numbers are
-// those of a store is the whole-state check's to say, in each call. It uses spans, memory_arena and store.
+// those of a store is the whole-state check's to say, in each call. It uses spans, memory_arena, store_state and
+// store_look.
 use memory_arena::Arena;
-use store::State;
+use store_state::State;
 ghost use mathlib.Core.Path.{_≡_};
 ghost use mathlib.Core.Bool.{cond};
 ghost use Prim.Native.Nat.{_+_, _≤_};

@@ -23,29 +23,29 @@ use Rattle.shared_arena_hashmap.specs.declared.Met.{Met}
 use Rattle.shared_arena_hashmap.specs.declared.Met.the-variants.{Empty, Standing, Damaged, Lap}
 use Rattle.shared_arena_hashmap.specs.Power.{grownLength}
 use Rattle.shared_arena_hashmap.specs.Buckets.{emptyAt}
-use Rattle.shared_arena_hashmap.specs.Probe.{keyLength, keyAt}
+use Rattle.records.specs.Record.{keyLength, keyAt, recordBytes}
 use Rattle.shared_arena_hashmap.specs.Grow.{freeOf}
 use Rattle.shared_arena_hashmap.proofs.Laws.{length-grown}
 use Rattle.shared_arena_hashmap.proofs.Room.{enters, grown-empty, lookup-empty}
-use Rattle.expull.specs.declared.Header.{Header}
-use Rattle.expull.specs.Header.{fresh, headerBytes}
-use Rattle.expull.specs.Append.{Writing, writing, appended}
-use Rattle.store.specs.declared.State.{State}
-use Rattle.store.specs.declared.Appended.the-variants.{Accepted}
-use Rattle.store.specs.declared.Lookup.the-variants.{Missing, Failed}
-use Rattle.store.specs.declared.Name.{Name}
-use Rattle.store.specs.declared.Name.the-variants.{TooLong, Nameless, Proper}
-use Rattle.store.specs.State.{firstOf}
-use Rattle.store.specs.Name.{nameKind, byKind}
-use Rattle.store.specs.Look.{Lent, checked, walkOf, lookupOf, onMet as Look·onMet}
-use Rattle.store.specs.Append.{Out, declined, isSaturated, roomToGrow, isCrowded, grows, grownState, stateGrown}
-use Rattle.store.specs.Append.{tableGrown, movedState, recordBytes, newWritten, onKeyRoom, appendNew, onMet}
-use Rattle.store.specs.Append.{appendOf}
+use Rattle.expull_header.specs.declared.Header.{Header}
+use Rattle.expull_header.specs.Header.{fresh, headerBytes}
+use Rattle.expull_append.specs.Append.{Writing, writing, appended}
+use Rattle.store_state.specs.declared.State.{State}
+use Rattle.store_append.specs.declared.Appended.the-variants.{Accepted}
+use Rattle.store_look.specs.declared.Lookup.the-variants.{Missing, Failed}
+use Rattle.store_state.specs.declared.Name.{Name}
+use Rattle.store_state.specs.declared.Name.the-variants.{TooLong, Nameless, Proper}
+use Rattle.store_state.specs.State.{firstOf}
+use Rattle.store_state.specs.Name.{nameKind, byKind}
+use Rattle.store_look.specs.Look.{Lent, checked, walkOf, lookupOf, onMet as Look·onMet}
+use Rattle.store_append.specs.Append.{Out, declined, isSaturated, roomToGrow, isCrowded, grows, grownState, stateGrown}
+use Rattle.store_append.specs.Append.{tableGrown, movedState, newWritten, onKeyRoom, appendNew, onMet, appendOf}
 use Rattle.store.specs.Promises.{Entered}
-use Rattle.store.proofs.Whole.{Whole, whole-facts, Growable, growable, grown-stands, first-in}
-use Rattle.store.proofs.Guard.{kind-short}
-use Rattle.store.proofs.Cases.{state-stays, state-grows, table-stays, table-grows, does-grow}
-use Rattle.store.proofs.Cases.{stays-unsaturated, record-written}
+use Rattle.store_state.proofs.Whole.{Whole, whole-facts, first-in}
+use Rattle.store_append.proofs.Growth.{Growable, growable, grown-stands}
+use Rattle.store_state.proofs.Guard.{kind-short}
+use Rattle.store_append.proofs.Cases.{state-stays, state-grows, table-stays, table-grows, does-grow, stays-unsaturated}
+use Rattle.records.proofs.Laws.{record-written}
 
 -- the key of a record as it is written
 key-written : (at : ℕ) (name : List ℕ) (h : Header) (keys : List ℕ) → length name ≤ nameLimit

@@ -1,5 +1,5 @@
--- An accepted creation or append gives a state that passes the whole-state check, on any memory, or the next call would be refused for what this one did.
--- Assumes nothing.
+-- An accepted creation or append gives a state that passes the whole-state check, on any memory, or the next call would
+-- be refused for what this one did. Assumes nothing.
 use Prim.Native.Nat.{ℕ, _+_, _*_, _/_, _≤_, _<_}
 use mathlib.Core.Path.{_≡_, refl, sym, _∙_, subst}
 use mathlib.Core.Bool.{Bool, true, false, cond, _&&_}
@@ -23,26 +23,29 @@ use Rattle.shared_arena_hashmap.specs.declared.Met.{Met}
 use Rattle.shared_arena_hashmap.specs.declared.Met.the-variants.{Empty, Standing, Damaged, Lap}
 use Rattle.shared_arena_hashmap.specs.Power.{roundedDown, powerOfTwo, grownLength}
 use Rattle.shared_arena_hashmap.specs.Buckets.{cleared}
-use Rattle.shared_arena_hashmap.specs.Probe.{valuePlace}
+use Rattle.records.specs.Record.{valuePlace, headerOf, headerSound, recordBytes}
 use Rattle.shared_arena_hashmap.specs.Grow.{entered, grown}
-use Rattle.shared_arena_hashmap.proofs.Laws.{rounded-is-power, grown-is-power, length-cleared, length-entered, length-grown}
-use Rattle.expull.specs.Header.{fresh, headerBytes}
-use Rattle.expull.specs.Append.{Writing, writing, appended, goodTail}
-use Rattle.expull.proofs.Laws.Append.{appended-length, appended-sensible, appended-size}
-use Rattle.store.specs.declared.State.{State}
-use Rattle.store.specs.declared.Created.the-variants.{Made, Barred}
-use Rattle.store.specs.declared.Appended.the-variants.{Accepted}
-use Rattle.store.specs.Create.{out as Create·out, creatable, freshState, createOf}
-use Rattle.store.specs.declared.Name.{Name}
-use Rattle.store.specs.declared.Name.the-variants.{TooLong, Nameless, Proper}
-use Rattle.store.specs.State.{wordsTaken, firstOf}
-use Rattle.store.specs.Name.{nameKind, byKind}
-use Rattle.store.specs.Look.{Lent, lent, checked, walkOf, headerOf, headerSound}
-use Rattle.store.specs.Append.{Out, declined, isSaturated, roomToGrow, isCrowded, grows, grownState, stateGrown}
-use Rattle.store.specs.Append.{tableGrown, movedState, recordBytes, standingWritten, appendStanding, newWritten}
-use Rattle.store.specs.Append.{onKeyRoom, appendNew, onMet, appendOf}
-use Rattle.store.proofs.Whole.{Whole, whole-facts, whole-made, Growable, growable, grown-stands, creatable-facts, unused-sensible}
-use Rattle.store.proofs.Cases.{state-stays, state-grows, stays-unsaturated, stays-crowded, does-grow}
+use Rattle.shared_arena_hashmap.proofs.Laws.{rounded-is-power, grown-is-power, length-cleared, length-entered}
+use Rattle.shared_arena_hashmap.proofs.Laws.{length-grown}
+use Rattle.expull_header.specs.Header.{fresh, headerBytes}
+use Rattle.expull_append.specs.Append.{Writing, writing, appended, goodTail}
+use Rattle.expull_append.proofs.Laws.{appended-length, appended-sensible, appended-size}
+use Rattle.store_state.specs.declared.State.{State}
+use Rattle.store_create.specs.declared.Created.the-variants.{Made, Barred}
+use Rattle.store_append.specs.declared.Appended.the-variants.{Accepted}
+use Rattle.store_create.specs.Create.{out as Create·out, creatable, freshState, createOf}
+use Rattle.store_state.specs.declared.Name.{Name}
+use Rattle.store_state.specs.declared.Name.the-variants.{TooLong, Nameless, Proper}
+use Rattle.store_state.specs.State.{wordsTaken, firstOf}
+use Rattle.store_state.specs.Name.{nameKind, byKind}
+use Rattle.store_look.specs.Look.{Lent, lent, checked, walkOf}
+use Rattle.store_append.specs.Append.{Out, declined, isSaturated, roomToGrow, isCrowded, grows, grownState, stateGrown}
+use Rattle.store_append.specs.Append.{tableGrown, movedState, standingWritten, appendStanding, newWritten}
+use Rattle.store_append.specs.Append.{onKeyRoom, appendNew, onMet, appendOf}
+use Rattle.store_state.proofs.Whole.{Whole, whole-facts, whole-made}
+use Rattle.store_create.proofs.Creation.{creatable-facts, unused-sensible}
+use Rattle.store_append.proofs.Growth.{Growable, growable, grown-stands}
+use Rattle.store_append.proofs.Cases.{state-stays, state-grows, stays-unsaturated, stays-crowded, does-grow}
 
 -- ---- growth
 
@@ -61,7 +64,14 @@ grown-state st w h p = go (isSaturated st) refl (roomToGrow st) refl
     stays : grows st ≡ false → (isCrowded st ≡ false → st .keys + 1 ≤ st .buckets) → Grown st (stateGrown st)
     stays e k =
         subst (Grown st) (sym (state-stays st e))
-        (record { words-same = refl; keys-same = refl; lists-same = refl; power = p; no-less = omega arith; one-more = k })
+        (record {
+          words-same = refl;
+          keys-same = refl;
+          lists-same = refl;
+          power = p;
+          no-less = omega arith;
+          one-more = k;
+        })
 
     go : (a : Bool) → isSaturated st ≡ a → (b : Bool) → roomToGrow st ≡ b → Grown st (stateGrown st)
     go true e true f =
@@ -93,7 +103,8 @@ keeps-declined : (st : State) (m : Lent) (n : ℕ) → Keeps st (declined st m n
 unfolding Keeps
 keeps-declined st m n s e = let z : _≡_ {A = ℕ} 0 1 = cc in absurd (omega arith)
 
-keeps-cond : (st : State) (b : Bool) (x y : Out) → (b ≡ true → Keeps st x) → (b ≡ false → Keeps st y) → Keeps st (cond b x y)
+keeps-cond : (st : State) (b : Bool) (x y : Out) → (b ≡ true → Keeps st x) → (b ≡ false → Keeps st y)
+    → Keeps st (cond b x y)
 keeps-cond st true x y p q = p refl
 keeps-cond st false x y p q = q refl
 
@@ -113,13 +124,17 @@ module _ (st : State) (m : Lent) (c : checked st m ≡ true) where
   unfolding tableGrown
   long-table = go (grows st)
     where
-      go : (b : Bool) → length (cond b (grown (st .buckets) (firstOf st) (firstOf (grownState st)) (grownLength (st .buckets)) (m .table)) (m .table)) ≡ length (m .table)
+      go : (b : Bool) → length
+          (cond b (grown (st .buckets) (firstOf st) (firstOf (grownState st)) (grownLength (st .buckets)) (m .table))
+          (m .table)) ≡ length (m .table)
       go true = length-grown (st .buckets) (firstOf st) (firstOf (grownState st)) (grownLength (st .buckets)) (m .table)
       go false = refl
 
   -- the state and the memory put together
-  left : (keys : ℕ) (a b : Arena) (t k l : List ℕ) → keys ≤ stateGrown st .buckets → sensible a (length (m .keys)) ≡ true → sensible b (length (m .lists)) ≡ true
-      → a .size ≡ st .«key_arena» .size → b .size ≡ st .«list_arena» .size → length t ≡ length (m .table) → length k ≡ length (m .keys) → length l ≡ length (m .lists)
+  left : (keys : ℕ) (a b : Arena) (t k l : List ℕ) → keys ≤ stateGrown st .buckets
+      → sensible a (length (m .keys)) ≡ true → sensible b (length (m .lists)) ≡ true
+      → a .size ≡ st .«key_arena» .size → b .size ≡ st .«list_arena» .size → length t ≡ length (m .table)
+      → length k ≡ length (m .keys) → length l ≡ length (m .lists)
       → Sized st (movedState (stateGrown st) keys a b) (lent t k l)
   left keys a b t k l n p q u v x y z =
       let G = grown-state st (length (m .table)) g (w .power) in
@@ -140,7 +155,8 @@ module _ (st : State) (m : Lent) (c : checked st m ≡ true) where
         u,
       )
 
-  keeps-standing-written : (at : ℕ) (bytes : List ℕ) (x : Option Writing) → appended bytes (writing (m .lists) (st .«list_arena») (headerOf (m .keys) at)) ≡ x
+  keeps-standing-written : (at : ℕ) (bytes : List ℕ) (x : Option Writing)
+      → appended bytes (writing (m .lists) (st .«list_arena») (headerOf (m .keys) at)) ≡ x
       → Keeps st (standingWritten x st m at)
   unfolding standingWritten Keeps
   keeps-standing-written at bytes none e s f = keeps-declined st m 7 s f
@@ -149,7 +165,8 @@ module _ (st : State) (m : Lent) (c : checked st m ≡ true) where
       let G = grown-state st (length (m .table)) g (w .power) in
       let k : List ℕ = overwrite (valuePlace (m .keys) at) (headerBytes (v .header)) (m .keys) in
       subst (λ (r : State). Sized st r (lent (tableGrown st (m .table)) k (v .memory))) q
-      (left (st .keys) (st .«key_arena») (v .arena) (tableGrown st (m .table)) k (v .memory) (omega (arith, w .keys-le, G .no-less)) (w .key-arena)
+      (left (st .keys) (st .«key_arena») (v .arena) (tableGrown st (m .table)) k (v .memory)
+      (omega (arith, w .keys-le, G .no-less)) (w .key-arena)
       (appended-sensible bytes (writing (m .lists) (st .«list_arena») (headerOf (m .keys) at)) v (w .list-arena) e) refl
       (appended-size bytes (writing (m .lists) (st .«list_arena») (headerOf (m .keys) at)) v e) long-table
       (length-overwrite (valuePlace (m .keys) at) (headerBytes (v .header)) (m .keys))
@@ -159,10 +176,14 @@ module _ (st : State) (m : Lent) (c : checked st m ≡ true) where
   unfolding appendStanding
   keeps-standing at bytes =
       keeps-cond st (headerSound (m .keys) at && goodTail (st .«list_arena») (headerOf (m .keys) at)) _ _
-      (λ e. keeps-standing-written at bytes (appended bytes (writing (m .lists) (st .«list_arena») (headerOf (m .keys) at))) refl) (λ e. keeps-declined st m 4)
+      (λ e. keeps-standing-written at bytes
+      (appended bytes (writing (m .lists) (st .«list_arena») (headerOf (m .keys) at))) refl)
+      (λ e. keeps-declined st m 4)
 
-  keeps-new-written : (name bytes : List ℕ) (at : ℕ) (a : Arena) → isCrowded st ≡ false → sensible a (length (m .keys)) ≡ true
-      → a .size ≡ st .«key_arena» .size → (x : Option Writing) → appended bytes (writing (m .lists) (st .«list_arena») fresh) ≡ x → Keeps st (newWritten x st m name at a)
+  keeps-new-written : (name bytes : List ℕ) (at : ℕ) (a : Arena) → isCrowded st ≡ false
+      → sensible a (length (m .keys)) ≡ true
+      → a .size ≡ st .«key_arena» .size → (x : Option Writing)
+      → appended bytes (writing (m .lists) (st .«list_arena») fresh) ≡ x → Keeps st (newWritten x st m name at a)
   unfolding newWritten Keeps
   keeps-new-written name bytes at a r k u none e s f = keeps-declined st m 7 s f
   keeps-new-written name bytes at a r k u (some v) e s f =
@@ -172,17 +193,21 @@ module _ (st : State) (m : Lent) (c : checked st m ≡ true) where
       let t : List ℕ = entered (firstOf (stateGrown st)) (stateGrown st .buckets) at h (tableGrown st (m .table)) in
       let n : List ℕ = overwrite at (recordBytes name (v .header)) (m .keys) in
       subst (λ (r : State). Sized st r (lent t n (v .memory))) q
-      (left (st .keys + 1) a (v .arena) t n (v .memory) (G .one-more r) k (appended-sensible bytes (writing (m .lists) (st .«list_arena») fresh) v (w .list-arena) e) u
+      (left (st .keys + 1) a (v .arena) t n (v .memory) (G .one-more r) k
+      (appended-sensible bytes (writing (m .lists) (st .«list_arena») fresh) v (w .list-arena) e) u
       (appended-size bytes (writing (m .lists) (st .«list_arena») fresh) v e)
       (length-entered (firstOf (stateGrown st)) (stateGrown st .buckets) at h (tableGrown st (m .table)) ∙ long-table)
-      (length-overwrite at (recordBytes name (v .header)) (m .keys)) (appended-length bytes (writing (m .lists) (st .«list_arena») fresh) v e))
+      (length-overwrite at (recordBytes name (v .header)) (m .keys))
+      (appended-length bytes (writing (m .lists) (st .«list_arena») fresh) v e))
 
-  keeps-room : (name bytes : List ℕ) → isCrowded st ≡ false → (r : Allocated) → roomFor (st .«key_arena») (length (m .keys)) (length name + recordExtra) ≡ r
+  keeps-room : (name bytes : List ℕ) → isCrowded st ≡ false → (r : Allocated)
+      → roomFor (st .«key_arena») (length (m .keys)) (length name + recordExtra) ≡ r
       → Keeps st (onKeyRoom r st m name bytes)
   unfolding onKeyRoom
   keeps-room name bytes e (At at a) f =
       let n = length name + recordExtra in
-      keeps-new-written name bytes at a e (room-sensible (st .«key_arena») (length (m .keys)) n at a (omega arith) (w .key-arena) f)
+      keeps-new-written name bytes at a e
+      (room-sensible (st .«key_arena») (length (m .keys)) n at a (omega arith) (w .key-arena) f)
       (room-size (st .«key_arena») (length (m .keys)) n at a f)
       (appended bytes (writing (m .lists) (st .«list_arena») fresh)) refl
   keeps-room name bytes e NoRoom f = keeps-declined st m 6
@@ -210,26 +235,34 @@ appended-keeps st m name bytes =
     (keeps-met st m c name bytes (walkOf st m name .met)))
     (λ e. keeps-declined st m 2)
 
-pub append-whole : (st : State) (m : Lent) (name bytes : List ℕ) (s : State) → appendOf st m name bytes .answer ≡ Accepted s
+pub append-whole : (st : State) (m : Lent) (name bytes : List ℕ) (s : State)
+    → appendOf st m name bytes .answer ≡ Accepted s
     → checked s (appendOf st m name bytes .memory) ≡ true
 unfolding Keeps
 append-whole st m name bytes s e = appended-keeps st m name bytes s e .0
 
-pub append-size : (st : State) (m : Lent) (name bytes : List ℕ) (s : State) → appendOf st m name bytes .answer ≡ Accepted s
+pub append-size : (st : State) (m : Lent) (name bytes : List ℕ) (s : State)
+    → appendOf st m name bytes .answer ≡ Accepted s
     → s .«key_arena» .size ≡ st .«key_arena» .size
 unfolding Keeps
 append-size st m name bytes s e = appended-keeps st m name bytes s e .1
 
 -- ---- creation
 
-pub create-whole : (capacity seed size : ℕ) (table keys lists : List ℕ) (s : State) → createOf capacity seed size table (length keys) (length lists) .answer ≡ Made s
+pub create-whole : (capacity seed size : ℕ) (table keys lists : List ℕ) (s : State)
+    → createOf capacity seed size table (length keys) (length lists) .answer ≡ Made s
     → checked s (lent (createOf capacity seed size table (length keys) (length lists) .table) keys lists) ≡ true
 unfolding createOf
-create-whole capacity seed size table keys lists s = go (creatable capacity size (length table) (length keys) (length lists)) refl
+create-whole capacity seed size table keys lists s =
+    go (creatable capacity size (length table) (length keys) (length lists)) refl
   where
     go : (b : Bool) → creatable capacity size (length table) (length keys) (length lists) ≡ b
-        → cond b (Create·out (Made (freshState seed size (length table) (length keys) (length lists) (roundedDown capacity))) (cleared 0 (roundedDown capacity) table)) (Create·out (Barred 1) table) .answer ≡ Made s
-        → checked s (lent (cond b (Create·out (Made (freshState seed size (length table) (length keys) (length lists) (roundedDown capacity))) (cleared 0 (roundedDown capacity) table)) (Create·out (Barred 1) table) .table) keys lists) ≡ true
+        → cond b (Create·out (Made
+        (freshState seed size (length table) (length keys) (length lists) (roundedDown capacity)))
+        (cleared 0 (roundedDown capacity) table)) (Create·out (Barred 1) table) .answer ≡ Made s
+        → checked s (lent (cond b
+        (Create·out (Made (freshState seed size (length table) (length keys) (length lists) (roundedDown capacity)))
+        (cleared 0 (roundedDown capacity) table)) (Create·out (Barred 1) table) .table) keys lists) ≡ true
     go true c e =
         let q : freshState seed size (length table) (length keys) (length lists) (roundedDown capacity) ≡ s = cc in
         let f = creatable-facts capacity size (length table) (length keys) (length lists) c in

@@ -8,21 +8,22 @@ use lib.ListN.{length}
 use Rattle.limits.specs.Refusals.{one-outcome}
 use Rattle.shared_arena_hashmap.specs.Power.{roundedDown}
 use Rattle.shared_arena_hashmap.specs.Buckets.{cleared}
-use Rattle.store.specs.declared.State.{State}
-use Rattle.store.specs.declared.Created.the-variants.{Made, Barred}
-use Rattle.store.specs.declared.Appended.the-variants.{Declined}
-use Rattle.store.specs.Create.{out as creation, creatable, freshState, createOf}
-use Rattle.store.specs.declared.Lookup.{Lookup}
-use Rattle.store.specs.declared.Lookup.the-variants.{Missing}
-use Rattle.store.specs.declared.Answer.the-variants.{Absent}
-use Rattle.store.specs.Look.{Lent, checked, lookupOf, onLookup, onLookupRead, lengthAt, lengthOf, reading, readAt}
-use Rattle.store.specs.Look.{readOf, blockAt, findBlockOf}
-use Rattle.store.specs.Append.{out, declined, appendOf}
+use Rattle.store_state.specs.declared.State.{State}
+use Rattle.store_create.specs.declared.Created.the-variants.{Made, Barred}
+use Rattle.store_append.specs.declared.Appended.the-variants.{Declined}
+use Rattle.store_create.specs.Create.{out as creation, creatable, freshState, createOf}
+use Rattle.store_look.specs.declared.Lookup.{Lookup}
+use Rattle.store_look.specs.declared.Lookup.the-variants.{Missing}
+use Rattle.store_look.specs.declared.Answer.the-variants.{Absent}
+use Rattle.store_look.specs.Look.{Lent, checked, lookupOf, onLookup, onLookupRead, lengthAt, lengthOf, reading, readAt}
+use Rattle.store_look.specs.Look.{readOf, blockAt, findBlockOf}
+use Rattle.store_append.specs.Append.{out, declined, appendOf}
 use Rattle.store.specs.Promises.{Promises, Settled}
-use Rattle.store.proofs.Guard.{kind-nameless}
-use Rattle.store.proofs.Cases.{append-13}
-use Rattle.store.proofs.Found.{lookup-nameless}
-use Rattle.store.proofs.Fair.{fair-append, fair-read}
+use Rattle.store_state.proofs.Guard.{kind-nameless}
+use Rattle.store_append.proofs.Cases.{append-13}
+use Rattle.store_look.proofs.Found.{lookup-nameless}
+use Rattle.store_look.proofs.Fair.{fair-read}
+use Rattle.store_append.proofs.Fair.{fair-append}
 use Rattle.store.proofs.Kept.{create-whole, append-whole, append-size}
 use Rattle.store.proofs.Enters.{append-enters}
 
@@ -30,7 +31,8 @@ create-refused : (capacity seed size : ℕ) (table : List ℕ) (keyBytes listByt
     → createOf capacity seed size table keyBytes listBytes .answer ≡ Barred n
     → createOf capacity seed size table keyBytes listBytes ≡ creation (Barred 1) table
 unfolding createOf
-create-refused capacity seed size table keyBytes listBytes n = go (creatable capacity size (length table) keyBytes listBytes)
+create-refused capacity seed size table keyBytes listBytes n =
+    go (creatable capacity size (length table) keyBytes listBytes)
   where
     fresh : State
     fresh = freshState seed size (length table) keyBytes listBytes (roundedDown capacity)

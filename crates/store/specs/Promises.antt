@@ -8,21 +8,21 @@ use mathlib.Core.List.{List, []}
 use lib.ListN.{length}
 use Rattle.murmurhash2.specs.Murmur.{murmurHash2}
 use Rattle.shared_arena_hashmap.specs.Buckets.{addressAt, hashAt, emptyAt}
-use Rattle.shared_arena_hashmap.specs.Probe.{keyAt}
-use Rattle.store.specs.declared.State.{State}
-use Rattle.store.specs.declared.Created.the-variants.{Made, Barred}
-use Rattle.store.specs.declared.Appended.the-variants.{Accepted, Declined}
-use Rattle.store.specs.declared.Lookup.{Lookup}
-use Rattle.store.specs.declared.Lookup.the-variants.{Missing}
-use Rattle.store.specs.declared.Answer.{Answer}
-use Rattle.store.specs.declared.Answer.the-variants.{Absent, Refused}
-use Rattle.store.specs.declared.Listed.{Listed}
-use Rattle.store.specs.declared.Counted.{Counted}
-use Rattle.store.specs.State.{firstOf}
-use Rattle.store.specs.Create.{Out as Creation, out as creation, createOf}
-use Rattle.store.specs.Look.{Lent, lent, checked, lookupOf, lengthOf, Read, reading, readOf, findBlockOf}
-use Rattle.store.specs.Look.{showOf, nextOf, countOf}
-use Rattle.store.specs.Append.{Out, declined, tableGrown, appendOf}
+use Rattle.records.specs.Record.{keyAt}
+use Rattle.store_state.specs.declared.State.{State}
+use Rattle.store_create.specs.declared.Created.the-variants.{Made, Barred}
+use Rattle.store_append.specs.declared.Appended.the-variants.{Accepted, Declined}
+use Rattle.store_look.specs.declared.Lookup.{Lookup}
+use Rattle.store_look.specs.declared.Lookup.the-variants.{Missing}
+use Rattle.store_look.specs.declared.Answer.{Answer}
+use Rattle.store_look.specs.declared.Answer.the-variants.{Absent, Refused}
+use Rattle.store_look.specs.declared.Listed.{Listed}
+use Rattle.store_look.specs.declared.Counted.{Counted}
+use Rattle.store_state.specs.State.{firstOf}
+use Rattle.store_create.specs.Create.{Out as Creation, out as creation, createOf}
+use Rattle.store_look.specs.Look.{Lent, lent, checked, lookupOf, lengthOf, Read, reading, readOf, findBlockOf}
+use Rattle.store_look.specs.Look.{showOf, nextOf, countOf}
+use Rattle.store_append.specs.Append.{Out, declined, tableGrown, appendOf}
 
 -- ---- a new name entered
 

@@ -3,7 +3,8 @@ use script::rows;
 
 // A row a command: its number, then how it is written. The tens of the number say whose `play` has its arm: by way of
 // bench_one 1 bench_write, 2 bench_read, 3 bench_state, 4 bench_areas, 5 bench_lower, 6 bench_report, 7 bench_readings,
-// 8 bench_pieces, 9 bench_check; 10 bench_flat, 11 bench_join; `on` and those below 10 are this program's.
+// 8 bench_pieces, 9 bench_check; 10 bench_flat, 11 bench_join. `on` is bench_both's, `lend` and `walk` are bench_lent's,
+// `help` is this program's.
 const TABLE: [u8; 915] = *b"1 lend WORDS KEYBYTES LISTBYTES HH
 10 create CAPACITY SEED [SIZE]
 11 append NAME BYTES

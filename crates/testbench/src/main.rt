@@ -4,9 +4,9 @@
 // It promises only that it ends and stays in bounds, whatever it is fed; what the calls answer, the crates below
 // promise. `help` lists the commands; README.md says how to play a script. A line of up to 65,536 bytes, a bytes word
 // that expands to at most 262,144, an output of at most 1,048,576 bytes, 16,384 readings or 16,384 numbers; the memory
-// lies on the stack: 131,072 table words, 2 whole key pages, 3 whole list pages; for a second store 4,096 words, 196,608
-// and 327,680 bytes; a flat buffer of 196,608 bytes. It uses text, say, script, the libraries of its commands (their names begin with bench_), store and
-// memory_arena (the state's type), and the kit's io.
+// lies on the stack: 131,072 table words, 2 whole key pages, 3 whole list pages; for a second store 4,096 words,
+// 196,608 and 327,680 bytes; a flat buffer of 196,608 bytes. It uses text, say, script, the libraries of its commands
+// (their names begin with bench_), store_state and memory_arena (the state's type), and the kit's io.
 mod commands;
 mod play;
 

@@ -1,24 +1,11 @@
 // Lines of words: numbers and bytes as a script has them. It reads nothing itself: each call is given a line.
 //
 // It promises of any bytes that each call ends and stays inside what is lent, and asks nothing of its callers. It uses
-// fastcmp.
+// numbers and fastcmp.
 mod expand;
 pub mod fault;
 pub mod scan;
 pub mod words;
-
-ghost use Prim.Native.Nat.{min};
-ghost use mathlib.Core.Path.{_≡_};
-
-// The smaller of two numbers.
-pub fn least(a: usize, b: usize) -> usize
-    ensures { λ r. ⌜ r ≡ min a b ⌝ }
-{
-    if a < b {
-        return a;
-    }
-    b
-}
 
 // Makes every byte of an area the same.
 pub fn fill(area: &mut [u8], b: u8) {

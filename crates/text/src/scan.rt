@@ -6,7 +6,7 @@ ghost use lib.ListN.{length};
 pub fn find(text: &[u8], from: usize, b: u8) -> usize
     ensures { λ r. ⌜ (min from (length (now (text .entry))) ≤ r) × (r ≤ length (now (text .entry))) ⌝ }
 {
-    let mut i = crate::least(from, text.len());
+    let mut i = numbers::least(from, text.len());
     while i < text.len() {
         if text[i] == b {
             return i;

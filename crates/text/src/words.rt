@@ -197,7 +197,7 @@ pub fn byte(word: &[u8]) -> u32
 pub fn bytes(line: &[u8], k: usize, into: &mut [u8]) -> Taken
     ensures { λ r. ⌜ r .n ≤ length (now (into .entry)) ⌝ }
 {
-    let most = crate::least(into.len(), 262144);
+    let most = numbers::least(into.len(), 262144);
     crate::expand::expand(&mut into[0..most], word(line, k))
 }
 

@@ -4,7 +4,8 @@ use mathlib.Core.Path.{_≡_, refl, sym, ap, _∙_}
 use mathlib.Core.Logic.{⊎-elim}
 use mathlib.Core.Bool.{Bool, true, false, cond, _&&_, _||_, false≢true}
 use mathlib.Core.List.{List, [], _∷_, _++_, append-nil}
-use native.Mathlib.Nat.{pow-suc, pow-succ', pow-le-pow-right, mul-le-mul-left, div-eq-of-lt, add-mul-div-left, lt-mul-div-succ}
+use native.Mathlib.Nat.{pow-suc, pow-succ', pow-le-pow-right, mul-le-mul-left, div-eq-of-lt, add-mul-div-left}
+use native.Mathlib.Nat.{lt-mul-div-succ}
 use native.Mathlib.Omega.{arith}
 use lib.Dec.{leb, ltb, eqb}
 use lib.ListN.{length, take}

@@ -55,7 +55,8 @@ unfolding takeVint
 take-nothing zero = refl
 take-nothing (suc w) = refl
 
--- a number in reach of some bytes, less its lowest group, is in reach of one fewer; one with a second group wants a second byte
+-- a number in reach of some bytes, less its lowest group, is in reach of one fewer; one with a second group wants a
+-- second byte
 pub reach : (w n : ℕ) → n < 128 ^ suc w → n / 128 < 128 ^ w
 reach w n h = let k : n < 128 ^ w * 128 = rw pow-suc at h in omega arith
 
@@ -71,7 +72,8 @@ unfolding vintBytes
 length-most zero n = omega arith
 length-most (suc w) n = go (ltb n 128) (length-most w (n / 128))
   where
-    go : (t : Bool) → length (vintBytes w (n / 128)) ≤ w → length (cond t ((n + 128) ∷ []) (n % 128 ∷ vintBytes w (n / 128))) ≤ suc w
+    go : (t : Bool) → length (vintBytes w (n / 128)) ≤ w
+        → length (cond t ((n + 128) ∷ []) (n % 128 ∷ vintBytes w (n / 128))) ≤ suc w
     go true h = omega arith
     go false h = omega arith
 
@@ -90,7 +92,8 @@ unfolding vintBytes
 each-byte zero n = tt
 each-byte (suc w) n = go (ltb n 128) refl (each-byte w (n / 128))
   where
-    go : (t : Bool) → ltb n 128 ≡ t → Bytes (vintBytes w (n / 128)) → Bytes (cond t ((n + 128) ∷ []) (n % 128 ∷ vintBytes w (n / 128)))
+    go : (t : Bool) → ltb n 128 ≡ t → Bytes (vintBytes w (n / 128))
+        → Bytes (cond t ((n + 128) ∷ []) (n % 128 ∷ vintBytes w (n / 128)))
     go true e h = (omega (arith, ltb-true n 128 e), tt)
     go false e h = (omega arith, h)
 
@@ -103,7 +106,9 @@ top-on-last zero n h = rw (write-last zero n (omega arith)) (omega arith)
 top-on-last (suc w) n h =
     ⊎-elim
     (λ (k : n < 128). rw (write-last (suc w) n k) (omega arith))
-    (λ (k : 128 ≤ n). rw (write-on (suc w) n k) (top-before (n % 128) (vintBytes (suc w) (n / 128)) (omega arith) (top-on-last w (n / 128) (reach (suc w) n h))))
+    (λ (k : 128 ≤ n). rw (write-on (suc w) n k)
+    (top-before (n % 128) (vintBytes (suc w) (n / 128)) (omega arith)
+    (top-on-last w (n / 128) (reach (suc w) n h))))
     (below-or n 128)
 
 -- bytes, of which the last alone has the top bit
@@ -112,11 +117,14 @@ vint-bytes n h = (each-byte vintLimit n, top-on-last 4 n (omega arith))
 
 -- ---- written, then read
 
-take-back-last : (w n : ℕ) (rest : List ℕ) → n < 128 → takeVint (suc w) (vintBytes (suc w) n ++ rest) ≡ ended n (length (vintBytes (suc w) n))
-take-back-last w n rest k = rw (write-last w n k) (take-last w (n + 128) rest (omega arith) ∙ ap (λ (v : ℕ). ended v 1) (omega arith))
+take-back-last : (w n : ℕ) (rest : List ℕ) → n < 128
+    → takeVint (suc w) (vintBytes (suc w) n ++ rest) ≡ ended n (length (vintBytes (suc w) n))
+take-back-last w n rest k =
+    rw (write-last w n k) (take-last w (n + 128) rest (omega arith) ∙ ap (λ (v : ℕ). ended v 1) (omega arith))
 
 -- what is written is taken, whatever follows
-pub take-back : (w n : ℕ) (rest : List ℕ) → n < 128 ^ suc w → takeVint (suc w) (vintBytes (suc w) n ++ rest) ≡ ended n (length (vintBytes (suc w) n))
+pub take-back : (w n : ℕ) (rest : List ℕ) → n < 128 ^ suc w
+    → takeVint (suc w) (vintBytes (suc w) n ++ rest) ≡ ended n (length (vintBytes (suc w) n))
 take-back zero n rest h = take-back-last zero n rest (omega arith)
 take-back (suc w) n rest h =
     ⊎-elim
@@ -172,7 +180,8 @@ taken-within (took-last h) = (omega arith, (omega arith, omega arith))
 taken-within (took-on h t) = let r = taken-within t in (omega arith, (omega arith, omega arith))
 
 -- a vint takes at least as many bytes as its sum, or a number below that, is written in
-pub fewest-taken : {w : ℕ} {bs : List ℕ} {v k : ℕ} (n : ℕ) → Bytes bs → Took w bs v k → n ≤ v → length (vintBytes w n) ≤ k
+pub fewest-taken : {w : ℕ} {bs : List ℕ} {v k : ℕ} (n : ℕ) → Bytes bs → Took w bs v k → n ≤ v
+    → length (vintBytes w n) ≤ k
 fewest-taken n h (took-last {w} b) l = rw (write-last w n (omega (arith, h .0))) (omega arith)
 fewest-taken n h (took-on {w} b t) l =
     ⊎-elim
@@ -218,7 +227,8 @@ module _ {w n : ℕ} {bytes : List ℕ} {rest at : ℕ} (h : Writing w n bytes r
         whole =
             h .whole
             ∙ ap (λ (l : List ℕ). take at bytes ++ l) (rest-on k)
-            ∙ rw (take-suc-set bytes at (rest % 128) (omega arith)) (sym (append-snoc (take at bytes) (rest % 128) (vintBytes (w - suc at) (rest / 128))));
+            ∙ rw (take-suc-set bytes at (rest % 128) (omega arith))
+            (sym (append-snoc (take at bytes) (rest % 128) (vintBytes (w - suc at) (rest / 128))));
         free = drop-set-lt (suc at) bytes at (rest % 128) (omega arith) ∙ free-after;
       }
 
@@ -232,7 +242,8 @@ module _ {w n : ℕ} {bytes : List ℕ} {rest at : ℕ} (h : Writing w n bytes r
   pub written : rest < 128 → set bytes at (rest + 128) ≡ vintBytes w n ++ replicate (w - length (vintBytes w n)) 0
   written k =
       set-split bytes at (rest + 128) (omega arith)
-      ∙ rw (← written-length k, bytes-are k, free-after) (sym (append-snoc (take at bytes) (rest + 128) (replicate (w - suc at) 0)))
+      ∙ rw (← written-length k, bytes-are k, free-after)
+      (sym (append-snoc (take at bytes) (rest + 128) (replicate (w - suc at) 0)))
 
 -- ---- the reader's loop
 
@@ -259,7 +270,8 @@ stops at w l e = go (ltb at w) refl e
     go true x e = inr (ltb-false at l e)
     go false x e = inl (ltb-false at w x)
 
--- some bytes are taken, none with the top bit: what is taken in all is their sum, with the unit times what is taken from there
+-- some bytes are taken, none with the top bit: what is taken in all is their sum, with the unit times what is taken
+-- from there
 pub record Reading (w : ℕ) (bs : List ℕ) (sum unit at : ℕ) : Type 0 where
   pub within : at ≤ w
   pub there : at ≤ length bs
@@ -269,10 +281,17 @@ pub record Reading (w : ℕ) (bs : List ℕ) (sum unit at : ℕ) : Type 0 where
 
 pub reading-starts : (w : ℕ) (bs : List ℕ) → Reading w bs 0 1 0
 reading-starts w bs =
-    record { within = zero-le; there = zero-le; unit-is = refl; small = omega arith; whole = rw sub-zero (nothing (takeVint w bs)) }
+    record {
+      within = zero-le;
+      there = zero-le;
+      unit-is = refl;
+      small = omega arith;
+      whole = rw sub-zero (nothing (takeVint w bs));
+    }
   where
     nothing : (t : Taken) → t ≡ behind 0 1 0 t
-    nothing (ended v k) = let x : v ≡ 0 + 1 * v = omega arith in let y : k ≡ 0 + k = omega arith in λ i. ended (x i) (y i)
+    nothing (ended v k) =
+        let x : v ≡ 0 + 1 * v = omega arith in let y : k ≡ 0 + k = omega arith in λ i. ended (x i) (y i)
     nothing unended = refl
 
 -- what `answered` asks: the groups before the last make less than one of its units
@@ -285,10 +304,12 @@ module _ {w : ℕ} {bs : List ℕ} {sum unit at : ℕ} (h : Reading w bs sum uni
   pub unit-most : at < w → unit ≤ 128 ^ (w - 1)
   unit-most i = rw (h .unit-is) (pow-le-pow-right (omega arith) (omega arith))
 
-  next : at < w → at < length bs → takeVint (w - at) (drop at bs) ≡ takeVint (suc (w - suc at)) (getD bs at 0 ∷ drop (suc at) bs)
+  next : at < w → at < length bs
+      → takeVint (w - at) (drop at bs) ≡ takeVint (suc (w - suc at)) (getD bs at 0 ∷ drop (suc at) bs)
   next i j = let l : w - at ≡ suc (w - suc at) = omega arith in rw (l, drop-cons bs at 0 j)
 
-  pub reading-on : at < w → at < length bs → getD bs at 0 < 128 → Reading w bs (sum + unit * getD bs at 0) (unit * 128) (suc at)
+  pub reading-on : at < w → at < length bs → getD bs at 0 < 128
+      → Reading w bs (sum + unit * getD bs at 0) (unit * 128) (suc at)
   reading-on i j k =
       let b = getD bs at 0 in
       let p : unit * b ≤ unit * 127 = mul-le-mul-left unit (omega arith) in
@@ -309,7 +330,8 @@ module _ {w : ℕ} {bs : List ℕ} {sum unit at : ℕ} (h : Reading w bs sum uni
       let e : at + 1 - 1 ≡ at = omega arith in
       (omega arith, (omega arith, (rw e (h .unit-is), (h .small, omega arith))))
 
-  pub reading-last : at < w → at < length bs → 128 ≤ getD bs at 0 → takeVint w bs ≡ ended (sum + unit * (getD bs at 0 - 128)) (suc at)
+  pub reading-last : at < w → at < length bs → 128 ≤ getD bs at 0
+      → takeVint w bs ≡ ended (sum + unit * (getD bs at 0 - 128)) (suc at)
   reading-last i j k =
       h .whole
       ∙ ap (behind sum unit at) (next i j ∙ take-last (w - suc at) (getD bs at 0) (drop (suc at) bs) k)

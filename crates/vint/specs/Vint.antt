@@ -26,7 +26,8 @@ writeVint n = vintBytes vintLimit n
 
 -- RULES K2. The same by value: the bytes, zeros after them, and how many they are.
 abbrev pub vintOf : ℕ → Vint
-vintOf n = record { bytes = writeVint n ++ replicate (vintLimit - length (writeVint n)) 0; count = length (writeVint n) }
+vintOf n =
+    record { bytes = writeVint n ++ replicate (vintLimit - length (writeVint n)) 0; count = length (writeVint n) }
 
 -- RULES K1. The top bit is set on the last byte only.
 abbrev pub TopOnLast : List ℕ → Type 0

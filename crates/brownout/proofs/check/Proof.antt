@@ -4,7 +4,7 @@ use mathlib.Core.Bool.{true}
 use mathlib.Core.Path.{_≡_, sym, _∙_}
 use native.Mathlib.Omega.{arith}
 use borrow.Author.Tests.{not-true, not-false}
-use Rattle.store.specs.Look.{Lent, lent, checked}
+use Rattle.store_look.specs.Look.{Lent, lent, checked}
 use Rattle.brownout.proofs.Turns.{keys-short, lists-short, check-2, check-8, check-done, told}
 use borrow.Author.Needs.{needs}
 use Rattle.brownout.proofs.check.Statement.{statement}

@@ -1,7 +1,7 @@
 -- A bucket of the standing table is in the lent one. Assumes nothing.
 use Prim.Native.Nat.{_-_}
 use native.Mathlib.Omega.{arith}
-use Rattle.store.specs.Look.{lent}
+use Rattle.store_look.specs.Look.{lent}
 use Rattle.brownout.proofs.Turns.{In, bucket-in, buckets-in, count-vacant, count-full}
 use borrow.Author.Needs.{needs}
 use Rattle.brownout.proofs.count_on.Statement.{statement}

@@ -3,7 +3,7 @@ use Prim.Native.Nat.{_-_}
 use mathlib.Core.Path.{sym, ap, _∙_}
 use native.Mathlib.Omega.{arith}
 use borrow.Author.Tests.{not-true, not-false}
-use Rattle.store.specs.Look.{lent}
+use Rattle.store_look.specs.Look.{lent}
 use Rattle.brownout.proofs.Turns.{some-bucket, looked-few, bucket-none, bucket-some}
 use Rattle.shared_arena_hashmap.specs.declared.Walk.{Walk}
 use borrow.Author.Needs.{needs}

@@ -4,7 +4,7 @@ use mathlib.Core.Bool.{true, false}
 use mathlib.Core.Path.{_≡_, refl, _∙_}
 use native.Mathlib.Omega.{arith}
 use borrow.Author.Tests.{eq-eqb, ne-eqb}
-use Rattle.store.specs.Look.{lent}
+use Rattle.store_look.specs.Look.{lent}
 use Rattle.brownout.proofs.Turns.{Going, going-begun, going-stop, going-next, going-end}
 use Rattle.brownout.proofs.go_over.Statement.{statement}
 use Rattle.brownout.proofs.go_over.Tie as tie

@@ -2,9 +2,9 @@
 use Prim.Native.Nat.{_-_}
 use mathlib.Core.Path.{refl, sym, _∙_}
 use native.Mathlib.Omega.{arith}
-use Rattle.store.specs.Look.{lent}
+use Rattle.store_look.specs.Look.{lent}
 use Rattle.brownout.proofs.Turns.{tail-none, tail-some, tail-lost}
-use Rattle.expull.proofs.Laws.Header.{sound-facts}
+use Rattle.expull_header.proofs.Laws.{sound-facts}
 use borrow.Author.Needs.{needs}
 use Rattle.brownout.proofs.is_tail_good.Statement.{statement}
 use Rattle.brownout.proofs.is_tail_good.Tie as tie

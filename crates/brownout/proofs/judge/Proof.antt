@@ -4,11 +4,11 @@ use mathlib.Core.Bool.{true}
 use mathlib.Core.Path.{_≡_, sym, ap, _∙_}
 use native.Mathlib.Omega.{arith}
 use borrow.Author.Tests.{not-true, not-false}
-use Rattle.store.specs.Look.{lent}
+use Rattle.store_look.specs.Look.{lent}
 use Rattle.brownout.proofs.Turns.{keys-sense, lists-sense, Held, record-held, part-key, judged-1, judged-2}
 use Rattle.brownout.proofs.Turns.{judged-3, judged-4, judged-list}
-use Rattle.store.proofs.Found.{Headed, head-found, head-lost}
-use Rattle.shared_arena_hashmap.specs.Probe.{keyAt, goodRecord}
+use Rattle.records.proofs.Laws.{Headed, head-found, head-lost}
+use Rattle.records.specs.Record.{keyAt, goodRecord}
 use Rattle.brownout.specs.Code.{bucketOf}
 use borrow.Author.Needs.{needs}
 use Rattle.brownout.proofs.judge.Statement.{statement}

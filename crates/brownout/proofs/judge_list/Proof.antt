@@ -4,9 +4,9 @@ use mathlib.Core.Bool.{true, false}
 use mathlib.Core.Path.{sym, _∙_}
 use native.Mathlib.Omega.{arith}
 use borrow.Author.Tests.{not-true, not-false}
-use Rattle.store.specs.Look.{lent}
+use Rattle.store_look.specs.Look.{lent}
 use Rattle.brownout.proofs.Turns.{list-5, list-rest}
-use Rattle.expull.proofs.Laws.Header.{sound-facts}
+use Rattle.expull_header.proofs.Laws.{sound-facts}
 use Rattle.brownout.proofs.judge_list.Statement.{statement}
 use Rattle.brownout.proofs.judge_list.Tie as tie
 

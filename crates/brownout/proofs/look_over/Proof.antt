@@ -5,15 +5,15 @@ use mathlib.Core.Path.{_≡_, sym, ap, _∙_}
 use native.Mathlib.Omega.{arith}
 use lib.ListN.{getD}
 use borrow.Author.Tests.{eq-eqb, ne-eqb}
-use Rattle.store.specs.Look.{Lent, lent, headerOf, headerSound}
+use Rattle.records.specs.Record.{headerOf, headerSound, goodRecord}
+use Rattle.store_look.specs.Look.{Lent, lent}
 use Rattle.brownout.proofs.Turns.{In, bucket-in, buckets-in, vacant-code, record-code, keys-short, lists-short}
 use Rattle.brownout.proofs.Turns.{lists-sense, Held, record-held, over-vacant, over-judged, over-marked}
-use Rattle.store.proofs.Found.{Headed, head-found, head-lost}
+use Rattle.records.proofs.Laws.{Headed, head-found, head-lost}
 use Rattle.numbers.proofs.Tests.{not-both}
-use Rattle.shared_arena_hashmap.specs.Probe.{goodRecord}
-use Rattle.expull.specs.declared.Header.{Header}
-use Rattle.expull.specs.Header.{blockCount}
-use Rattle.expull.specs.Blocks.{goodBlocks}
+use Rattle.expull_header.specs.declared.Header.{Header}
+use Rattle.expull_header.specs.Header.{blockCount}
+use Rattle.expull_walk.specs.Blocks.{goodBlocks}
 use Rattle.brownout_faults.specs.Check.{vacant, recordIn}
 use Rattle.brownout.specs.Code.{step, judged}
 use Rattle.brownout.proofs.Once.{Judged, judged-facts}

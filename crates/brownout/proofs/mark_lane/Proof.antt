@@ -4,13 +4,13 @@ use mathlib.Core.Bool.{Bool, true, false}
 use mathlib.Core.Path.{_≡_, subst, _∙_}
 use native.Mathlib.Omega.{arith}
 use lib.ListN.{length}
-use Rattle.store.specs.Look.{lent}
+use Rattle.store_look.specs.Look.{lent}
 use Rattle.brownout.proofs.Turns.{lane-first, lane-then}
-use Rattle.expull.proofs.Laws.Header.{sound-facts}
+use Rattle.expull_header.proofs.Laws.{sound-facts}
 use Rattle.marks.specs.Bits.{out as marks·out, markSpan}
 use Rattle.brownout.specs.Code.{markBlocks}
 use Rattle.limits.specs.Limits.{recordExtra}
-use Rattle.expull.specs.Header.{blockCount}
+use Rattle.expull_header.specs.Header.{blockCount}
 use borrow.Author.Needs.{needs}
 use Rattle.brownout.proofs.mark_lane.Statement.{statement}
 use Rattle.brownout.proofs.mark_lane.Tie as tie

@@ -1,8 +1,8 @@
 -- The answer, told, and what is written. Assumes nothing.
 use mathlib.Core.Path.{sym, _∙_}
 use borrow.Author.Tests.{not-true, not-false}
-use Rattle.store.specs.declared.State.{State}
-use Rattle.store.specs.Look.{lent}
+use Rattle.store_state.specs.declared.State.{State}
+use Rattle.store_look.specs.Look.{lent}
 use Rattle.brownout_faults.specs.Check.{Out, out, checkOf}
 use Rattle.state_area.proofs.Laws.{sensible-long}
 use Rattle.c_told.proofs.Laws.{answered-with, senseless-with}

@@ -2,10 +2,10 @@
 use mathlib.Core.Path.{_≡_, sym, _∙_}
 use mathlib.Core.Bool.{true}
 use borrow.Author.Tests.{not-true, not-false}
-use Rattle.store.specs.declared.State.{State}
-use Rattle.store.specs.Look.{Lent, lent}
+use Rattle.store_state.specs.declared.State.{State}
+use Rattle.store_look.specs.Look.{Lent, lent}
 use mir.Facts.{toZ-ofZ}
-use Rattle.store.specs.Append.{Out, out}
+use Rattle.store_append.specs.Append.{Out, out}
 use Rattle.readings.specs.Readings.{appendReadingOf}
 use Rattle.state_area.specs.Area.{sensibleArea}
 use Rattle.state_area.proofs.Laws.{sensible-long}
@@ -25,7 +25,8 @@ returns : tie.Need-returns
 returns c = rw (sym (c .before .is-sensible-area .ensures) ∙ not-true _ (c .if1 .taken))
 
 -- the area was found sensible
-sensible : (c : tie.Else1) → sensibleArea (c .before .before .before .before .before .before .before .before .args .state .now) ≡ true
+sensible : (c : tie.Else1)
+    → sensibleArea (c .before .before .before .before .before .before .before .before .args .state .now) ≡ true
 sensible c = sym (c .before .is-sensible-area .ensures) ∙ not-false _ (c .if1 .left)
 
 load-requires : tie.Need-load-requires
@@ -35,7 +36,9 @@ append-reading-requires : tie.Need-append-reading-requires
 append-reading-requires c κs = search needs
 
 save-appended-requires : tie.Need-save-appended-requires
-save-appended-requires c κs = sensible-long _ (sensible (c .before .before .before .before .before .before .before .before .before .before .before .before .before))
+save-appended-requires c κs =
+    sensible-long _ (sensible
+    (c .before .before .before .before .before .before .before .before .before .before .before .before .before))
 
 same-length-2 : tie.Need-same-length-2
 same-length-2 c = search needs

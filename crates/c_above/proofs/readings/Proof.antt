@@ -1,8 +1,8 @@
 -- The answer, told, and what is written. Assumes nothing.
 use mathlib.Core.Path.{sym, _∙_}
 use borrow.Author.Tests.{not-true, not-false}
-use Rattle.store.specs.declared.State.{State}
-use Rattle.store.specs.Look.{lent}
+use Rattle.store_state.specs.declared.State.{State}
+use Rattle.store_look.specs.Look.{lent}
 use Rattle.readings.specs.Readings.{Out, out, readingsOf}
 use Rattle.state_area.proofs.Laws.{sensible-long}
 use Rattle.c_told.proofs.Laws.{answered-with, senseless-with}
@@ -48,9 +48,12 @@ returns-2 c =
     let e = l .before in
     let a = e .before .before .before .before .before .before .before .before .args in
     answered-with (λ (o : Out). recalledTold (o .answer) (a .told .now)) (λ (o : Out). o .output)
-    (λ (s : State). readingsOf s (lent (a .table .now) (a .keys .now) (a .lists .now)) (a .name .now) (a .output .now)) (a .state .now) _ _
-    (out (d .readings .result .answer) (d .readings .last .1 .1 .1 .1 .1 .0)) _ (sym (e .before .is-sensible-area .ensures)
-    ∙ not-false _ (e .if1 .left)) (c .before .before .tell-recalled .ensures) (d .readings .ensures .0) (l .load .ensures)
+    (λ (s : State). readingsOf s (lent (a .table .now) (a .keys .now) (a .lists .now)) (a .name .now) (a .output .now))
+    (a .state .now) _ _
+    (out (d .readings .result .answer) (d .readings .last .1 .1 .1 .1 .1 .0)) _
+    (sym (e .before .is-sensible-area .ensures)
+    ∙ not-false _ (e .if1 .left)) (c .before .before .tell-recalled .ensures) (d .readings .ensures .0)
+    (l .load .ensures)
 
 pub readings-spec : {M : Type 1} → statement M
 readings-spec =

@@ -1,8 +1,8 @@
 -- The answer, told, and what is written. Assumes nothing.
 use mathlib.Core.Path.{sym, _∙_}
 use borrow.Author.Tests.{not-true, not-false}
-use Rattle.store.specs.declared.State.{State}
-use Rattle.store.specs.Look.{lent}
+use Rattle.store_state.specs.declared.State.{State}
+use Rattle.store_look.specs.Look.{lent}
 use Rattle.report.specs.Report.{Out, out, reportOf}
 use Rattle.state_area.proofs.Laws.{sensible-long}
 use Rattle.c_told.proofs.Laws.{answered-with, senseless-with}
@@ -48,7 +48,8 @@ returns-2 c =
     let e = l .before in
     let a = e .before .before .before .before .before .before .before .before .args in
     answered-with (λ (o : Out). reportedTold (o .answer) (a .told .now)) (λ (o : Out). o .output)
-    (λ (s : State). reportOf s (lent (a .table .now) (a .keys .now) (a .lists .now)) (a .output .now)) (a .state .now) _ _
+    (λ (s : State). reportOf s (lent (a .table .now) (a .keys .now) (a .lists .now)) (a .output .now))
+    (a .state .now) _ _
     (out (d .report .result) (d .report .last .1 .1 .1 .1 .0)) _ (sym (e .before .is-sensible-area .ensures)
     ∙ not-false _ (e .if1 .left)) (c .before .before .tell-reported .ensures) (d .report .ensures .0) (l .load .ensures)
 

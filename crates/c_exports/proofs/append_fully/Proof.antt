@@ -3,10 +3,10 @@ use Prim.Native.Nat.{ℕ}
 use mathlib.Core.Path.{sym, ap, subst, _∙_}
 use mathlib.Core.List.{List}
 use Rattle.shared_arena_hashmap.specs.declared.Walk.{Walk}
-use Rattle.store.specs.declared.State.{State}
-use Rattle.store.specs.Look.{Lent, lent}
-use Rattle.store.specs.Append.{Out, Looked, onMet}
-use Rattle.store.proofs.Cases.{append-met}
+use Rattle.store_state.specs.declared.State.{State}
+use Rattle.store_look.specs.Look.{Lent, lent}
+use Rattle.store_append.specs.Append.{Out, Looked, onMet}
+use Rattle.store_append.proofs.Cases.{append-met}
 use Rattle.state_area.specs.Area.{stateAt}
 use Rattle.state_area.proofs.Laws.{sensible-long}
 use Rattle.c_told.specs.Told.{appended}

@@ -7,15 +7,16 @@ use mathlib.Core.List.{List}
 use borrow.Author.Tests.{not-true, not-false}
 use Rattle.numbers.proofs.Laws.{bytes-of}
 use Rattle.spans.specs.Span.{overwrite}
-use Rattle.store.specs.declared.State.{State}
-use Rattle.store.specs.Look.{Lent, lent}
-use Rattle.store.specs.declared.Tried.{Tried}
-use Rattle.store.specs.Append.{Out, Looked, appendOf}
-use Rattle.store.specs.Quick.{triedOf}
+use Rattle.store_state.specs.declared.State.{State}
+use Rattle.store_look.specs.Look.{Lent, lent}
+use Rattle.store_quick.specs.declared.Tried.{Tried}
+use Rattle.store_append.specs.Append.{Out, Looked, appendOf}
+use Rattle.store_quick.specs.Quick.{triedOf}
 use Rattle.state_area.specs.Area.{sensibleArea, stateAt, areaOf}
 use Rattle.state_area.proofs.Laws.{sensible-long}
 use Rattle.state_area.proofs.Back.{loaded-saved}
 use Rattle.c_told.specs.Told.{appended}
+use Rattle.c_exports.specs.Calls.{appendIn}
 use borrow.Author.Needs.{needs}
 use Rattle.c_exports.proofs.nuvrisel_append.Statement.{statement}
 use Rattle.c_exports.proofs.nuvrisel_append.Tie as tie

@@ -3,7 +3,7 @@ use Prim.Native.Nat.{ℕ}
 use mathlib.Core.Path.{_≡_, sym, ap, _∙_}
 use mathlib.Core.List.{List}
 use borrow.Author.Tests.{not-true, not-false, le-leb, lt-leb}
-use Rattle.store.specs.Create.{Out}
+use Rattle.store_create.specs.Create.{Out}
 use Rattle.c_told.specs.Told.{created}
 use borrow.Author.Needs.{needs}
 use Rattle.c_exports.proofs.nuvrisel_create.Statement.{statement}

@@ -2,9 +2,9 @@
 use mathlib.Core.Path.{sym, ap, _∙_}
 use mathlib.Core.List.{List}
 use borrow.Author.Tests.{not-true, not-false}
-use Rattle.store.specs.declared.State.{State}
-use Rattle.store.specs.declared.Answer.{Answer}
-use Rattle.store.specs.Look.{Lent, lent, lengthOf}
+use Rattle.store_state.specs.declared.State.{State}
+use Rattle.store_look.specs.declared.Answer.{Answer}
+use Rattle.store_look.specs.Look.{Lent, lent, lengthOf}
 use Rattle.state_area.proofs.Laws.{sensible-long}
 use Rattle.c_told.specs.Told.{answerTold}
 use borrow.Author.Needs.{needs}

@@ -1,9 +1,9 @@
 -- The store's answer, told. Assumes nothing.
 use mathlib.Core.Path.{sym, _∙_}
 use borrow.Author.Tests.{not-true, not-false}
-use Rattle.store.specs.declared.State.{State}
-use Rattle.store.specs.declared.Lookup.{Lookup}
-use Rattle.store.specs.Look.{lent, lookupOf}
+use Rattle.store_state.specs.declared.State.{State}
+use Rattle.store_look.specs.declared.Lookup.{Lookup}
+use Rattle.store_look.specs.Look.{lent, lookupOf}
 use Rattle.state_area.proofs.Laws.{sensible-long}
 use Rattle.c_told.specs.Told.{lookupTold}
 use Rattle.c_told.proofs.Laws.{answered, senseless}
@@ -44,7 +44,8 @@ returns-2 c =
     let e = l .before in
     let a = e .before .before .before .before .before .before .before .before .args in
     answered (λ (x : Lookup). lookupTold x (a .told .now))
-    (λ (s : State). lookupOf s (lent (a .table .now) (a .keys .now) (a .lists .now)) (a .name .now)) (a .state .now) _ _ _ _
+    (λ (s : State). lookupOf s (lent (a .table .now) (a .keys .now) (a .lists .now)) (a .name .now))
+    (a .state .now) _ _ _ _
     (sym (e .before .is-sensible-area .ensures) ∙ not-false _ (e .if1 .left)) (c .before .before .tell-lookup .ensures)
     (c .before .before .before .before .lookup .ensures .0) (l .load .ensures)
 

@@ -1,9 +1,9 @@
 -- The store's answer, told. Assumes nothing.
 use mathlib.Core.Path.{sym, _∙_}
 use borrow.Author.Tests.{not-true, not-false}
-use Rattle.store.specs.declared.State.{State}
-use Rattle.store.specs.declared.Listed.{Listed}
-use Rattle.store.specs.Look.{lent, nextOf}
+use Rattle.store_state.specs.declared.State.{State}
+use Rattle.store_look.specs.declared.Listed.{Listed}
+use Rattle.store_look.specs.Look.{lent, nextOf}
 use Rattle.state_area.proofs.Laws.{sensible-long}
 use Rattle.c_told.specs.Told.{listedTold}
 use Rattle.c_told.proofs.Laws.{answered, senseless}

@@ -3,8 +3,8 @@ use Prim.Native.Nat.{ℕ}
 use mathlib.Core.Path.{sym, ap, _∙_}
 use mathlib.Core.List.{List}
 use borrow.Author.Tests.{not-true, not-false}
-use Rattle.store.specs.declared.State.{State}
-use Rattle.store.specs.Look.{Lent, lent, Read, readOf}
+use Rattle.store_state.specs.declared.State.{State}
+use Rattle.store_look.specs.Look.{Lent, lent, Read, readOf}
 use Rattle.state_area.proofs.Laws.{sensible-long}
 use Rattle.c_exports.specs.Calls.{readTold}
 use borrow.Author.Needs.{needs}

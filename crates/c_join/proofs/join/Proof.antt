@@ -4,8 +4,8 @@ use mathlib.Core.Path.{_≡_, sym, ap, _∙_}
 use mathlib.Core.Bool.{true}
 use mathlib.Core.List.{List}
 use borrow.Author.Tests.{not-true, not-false}
-use Rattle.store.specs.declared.State.{State}
-use Rattle.store.specs.Look.{Lent, lent}
+use Rattle.store_state.specs.declared.State.{State}
+use Rattle.store_look.specs.Look.{Lent, lent}
 use Rattle.join.specs.Join.{store, Out, out, joinOf}
 use Rattle.state_area.specs.Area.{sensibleArea, stateAt}
 use Rattle.state_area.proofs.Laws.{sensible-long}

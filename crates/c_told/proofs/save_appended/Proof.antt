@@ -2,7 +2,7 @@
 use Prim.Native.Nat.{ℕ}
 use mathlib.Core.Path.{sym, ap, _∙_}
 use mathlib.Core.List.{List}
-use Rattle.store.specs.declared.Appended.{Appended}
+use Rattle.store_append.specs.declared.Appended.{Appended}
 use Rattle.c_told.specs.Told.{savedAppended}
 use borrow.Author.Needs.{needs}
 use Rattle.c_told.proofs.save_appended.Statement.{statement}

@@ -2,7 +2,7 @@
 use Prim.Native.Nat.{ℕ}
 use mathlib.Core.Path.{sym, ap, _∙_}
 use mathlib.Core.List.{List}
-use Rattle.store.specs.declared.Created.{Created}
+use Rattle.store_create.specs.declared.Created.{Created}
 use Rattle.c_told.specs.Told.{savedCreated}
 use borrow.Author.Needs.{needs}
 use Rattle.c_told.proofs.save_created.Statement.{statement}

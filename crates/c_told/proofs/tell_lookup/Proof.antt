@@ -2,7 +2,7 @@
 use Prim.Native.Nat.{ℕ}
 use mathlib.Core.Path.{sym, ap, _∙_}
 use mathlib.Core.List.{List}
-use Rattle.store.specs.declared.Lookup.{Lookup}
+use Rattle.store_look.specs.declared.Lookup.{Lookup}
 use Rattle.c_told.specs.Told.{lookupTold}
 use borrow.Author.Needs.{needs}
 use Rattle.c_told.proofs.tell_lookup.Statement.{statement}

@@ -2,9 +2,9 @@
 use mathlib.Core.Path.{ap, _∙_}
 use mathlib.Core.List.{List}
 use Prim.Native.Nat.{ℕ}
-use Rattle.store.specs.declared.State.{State}
-use Rattle.store.specs.Look.{Lent, lent}
-use Rattle.store.specs.Append.{Out, appendOf}
+use Rattle.store_state.specs.declared.State.{State}
+use Rattle.store_look.specs.Look.{Lent, lent}
+use Rattle.store_append.specs.Append.{Out, appendOf}
 use Rattle.edge.specs.Told.{appendTold}
 use borrow.Author.Needs.{needs}
 use Rattle.edge.proofs.edge_append.Statement.{statement}

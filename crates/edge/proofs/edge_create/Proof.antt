@@ -2,7 +2,7 @@
 use mathlib.Core.Path.{ap, _∙_}
 use mathlib.Core.List.{List}
 use Prim.Native.Nat.{ℕ}
-use Rattle.store.specs.Create.{Out}
+use Rattle.store_create.specs.Create.{Out}
 use Rattle.edge.specs.Told.{createTold}
 use borrow.Author.Needs.{needs}
 use Rattle.edge.proofs.edge_create.Statement.{statement}

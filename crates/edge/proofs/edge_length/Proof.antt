@@ -1,8 +1,8 @@
 -- What the call below answers and leaves, told. Assumes nothing.
 use mathlib.Core.Path.{ap, _∙_}
-use Rattle.store.specs.declared.State.{State}
-use Rattle.store.specs.declared.Answer.{Answer}
-use Rattle.store.specs.Look.{Lent, lent, lengthOf}
+use Rattle.store_state.specs.declared.State.{State}
+use Rattle.store_look.specs.declared.Answer.{Answer}
+use Rattle.store_look.specs.Look.{Lent, lent, lengthOf}
 use Rattle.spans.specs.Span.{overwrite}
 use Rattle.edge.specs.Told.{toldAnswer}
 use borrow.Author.Needs.{needs}

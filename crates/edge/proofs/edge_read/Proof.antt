@@ -2,8 +2,8 @@
 use mathlib.Core.Path.{ap, _∙_}
 use mathlib.Core.List.{List}
 use Prim.Native.Nat.{ℕ}
-use Rattle.store.specs.declared.State.{State}
-use Rattle.store.specs.Look.{Lent, lent, Read, readOf}
+use Rattle.store_state.specs.declared.State.{State}
+use Rattle.store_look.specs.Look.{Lent, lent, Read, readOf}
 use Rattle.edge.specs.Told.{readTold}
 use borrow.Author.Needs.{needs}
 use Rattle.edge.proofs.edge_read.Statement.{statement}

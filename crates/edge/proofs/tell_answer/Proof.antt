@@ -2,7 +2,7 @@
 use Prim.Native.Nat.{ℕ}
 use mathlib.Core.Path.{sym, ap, _∙_}
 use Rattle.spans.specs.Span.{overwrite}
-use Rattle.store.specs.declared.Answer.{Answer}
+use Rattle.store_look.specs.declared.Answer.{Answer}
 use Rattle.edge.specs.Told.{four, toldAnswer}
 use borrow.Author.Needs.{needs}
 use Rattle.edge.proofs.tell_answer.Statement.{statement}

@@ -1,7 +1,7 @@
 -- Each answer's words. Assumes nothing.
 use mathlib.Core.Path.{sym, ap, _∙_}
 use Rattle.spans.specs.Span.{overwrite}
-use Rattle.store.specs.declared.Appended.{Appended}
+use Rattle.store_append.specs.declared.Appended.{Appended}
 use Rattle.edge.specs.Told.{toldAppended}
 use borrow.Author.Needs.{needs}
 use Rattle.edge.proofs.tell_appended.Statement.{statement}

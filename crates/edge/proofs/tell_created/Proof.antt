@@ -1,7 +1,7 @@
 -- Each answer's words. Assumes nothing.
 use mathlib.Core.Path.{sym, ap, _∙_}
 use Rattle.spans.specs.Span.{overwrite}
-use Rattle.store.specs.declared.Created.{Created}
+use Rattle.store_create.specs.declared.Created.{Created}
 use Rattle.edge.specs.Told.{toldCreated}
 use borrow.Author.Needs.{needs}
 use Rattle.edge.proofs.tell_created.Statement.{statement}

@@ -1,4 +1,5 @@
--- `fastcmp::short_compare` meets its contract. The invariant: the test of the whole is the test from `i` on. Assumes nothing.
+-- `fastcmp::short_compare` meets its contract. The invariant: the test of the whole is the test from `i` on. Assumes
+-- nothing.
 use Prim.Native.Nat.{_≤_, _-_, zero-le}
 use mathlib.Core.Path.{_≡_, refl, sym, _∙_}
 use native.Mathlib.Omega.{arith}
@@ -28,7 +29,8 @@ returns : tie.Need-returns Inv-loop μ-loop
 returns c =
     let s = c .before .before .before .before .before .args in
     let l = c .before .before .before .before .loop in
-    sym (l .inv .1 ∙ equal-turn (s .left .now) (s .right .now) (l .i) (omega arith) (omega arith) ∙ rw (ne-eqb _ _ (c .if1 .taken)))
+    sym (l .inv .1 ∙ equal-turn (s .left .now) (s .right .now) (l .i) (omega arith) (omega arith)
+    ∙ rw (ne-eqb _ _ (c .if1 .taken)))
 
 add-i : tie.Need-add-i Inv-loop μ-loop
 add-i c = omega arith
@@ -41,7 +43,8 @@ loop-again c =
     let s = c .before .before .before .before .before .args in
     let l = c .before .before .before .before .loop in (
       omega arith,
-      l .inv .1 ∙ equal-turn (s .left .now) (s .right .now) (l .i) (omega arith) (omega arith) ∙ rw (eq-eqb _ _ (c .if1 .left)),
+      l .inv .1 ∙ equal-turn (s .left .now) (s .right .now) (l .i) (omega arith) (omega arith)
+          ∙ rw (eq-eqb _ _ (c .if1 .left)),
     )
 
 returns-2 : tie.Need-returns-2 Inv-loop μ-loop

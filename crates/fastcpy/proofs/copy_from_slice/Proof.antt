@@ -1,4 +1,5 @@
--- `fastcpy::copy_from_slice` meets its contract. The invariant: the destination is as it was, with the first `i` bytes of the source written over its front. Assumes nothing.
+-- `fastcpy::copy_from_slice` meets its contract. The invariant: the destination is as it was, with the first `i` bytes
+-- of the source written over its front. Assumes nothing.
 use Prim.Native.Nat.{_≤_, _-_, zero-le}
 use mathlib.Core.Path.{_≡_, refl, sym, ap, _∙_}
 use native.Mathlib.Omega.{arith}
@@ -37,8 +38,11 @@ loop-less c = omega arith
 loop-again : tie.Need-loop-again Inv-loop μ-loop
 loop-again c =
     let l = c .before .before .loop in
-    let a = c .before .before .before .args in
-    (omega arith, rw (l .inv .1, add-one (l .i)) (copy-turn 0 (a .src .now) (a .dst .now) (l .i) (l .i) (omega arith) (omega arith)))
+    let a = c .before .before .before .args in (
+      omega arith,
+      rw (l .inv .1, add-one (l .i))
+          (copy-turn 0 (a .src .now) (a .dst .now) (l .i) (l .i) (omega arith) (omega arith)),
+    )
 
 same-length : tie.Need-same-length Inv-loop μ-loop
 same-length c = simp length-overwrite at (ap length (c .before .loop .inv .1))
@@ -47,7 +51,8 @@ returns : tie.Need-returns Inv-loop μ-loop
 returns c =
     let l = c .before .loop in
     let a = c .before .before .args in
-    l .inv .1 ∙ rw (take-all (l .i) (a .src .now) (omega arith)) (overwrite-rest (a .src .now) (a .dst .now) 0 zero-le (omega arith) refl)
+    l .inv .1 ∙ rw (take-all (l .i) (a .src .now) (omega arith))
+    (overwrite-rest (a .src .now) (a .dst .now) 0 zero-le (omega arith) refl)
 
 pub copy-from-slice-spec : {M : Type 1} → statement M
 copy-from-slice-spec =

@@ -33,9 +33,12 @@ returns : tie.Need-returns
 returns c =
     let a = c .before .before .before .before .before .before .args in
     let e = a .at + length (a .src .now) in
-    let room : length (take (e - a .at) (drop (a .at) (a .mem .now))) ≡ e - a .at = mid-len (a .at) e (a .mem .now) (omega arith) in
+    let room : length (take (e - a .at) (drop (a .at) (a .mem .now))) ≡ e - a .at =
+    mid-len (a .at) e (a .mem .now) (omega arith) in
     let same : c .before .before .fast-short-slice-copy .last .1 .0 ≡ a .src .now =
-    ap (λ (o : Out). o .dst) (c .before .before .fast-short-slice-copy .ensures .0 ∙ copy-done (a .src .now) (take (e - a .at) (drop (a .at) (a .mem .now))) (omega arith)) in
+    ap (λ (o : Out). o .dst)
+    (c .before .before .fast-short-slice-copy .ensures .0
+    ∙ copy-done (a .src .now) (take (e - a .at) (drop (a .at) (a .mem .now))) (omega arith)) in
     rw same (part-back (a .mem .now) (a .at) e (a .src .now) (omega arith) (omega arith) (omega arith))
 
 pub copy-in-spec : {M : Type 1} → statement M

@@ -1,4 +1,5 @@
--- `fastcpy::copy_parts` meets its contract. The invariant: as far as the parts have come, the destination is the source. Assumes nothing.
+-- `fastcpy::copy_parts` meets its contract. The invariant: as far as the parts have come, the destination is the
+-- source. Assumes nothing.
 use Prim.Native.Nat.{_≤_, _-_, zero-le}
 use mathlib.Core.Path.{_≡_, refl, sym, _∙_}
 use native.Mathlib.Omega.{arith}

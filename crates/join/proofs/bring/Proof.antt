@@ -2,7 +2,7 @@
 use Prim.Native.Nat.{_+_, _≤_}
 use native.Mathlib.Omega.{arith}
 use lib.ListN.{length}
-use Rattle.store.specs.Look.{lent}
+use Rattle.store_look.specs.Look.{lent}
 use Rattle.report.proofs.Written.{standing-key}
 use Rattle.join.specs.Join.{store}
 use Rattle.join.proofs.Laws.{bring-is}

@@ -1,6 +1,6 @@
 -- `join::halted` meets its contract. Assumes nothing.
 use mathlib.Core.Path.{sym, ap}
-use Rattle.store.specs.declared.Appended.{Appended}
+use Rattle.store_append.specs.declared.Appended.{Appended}
 use Rattle.join.specs.Bring.{haltedOf}
 use borrow.Author.Needs.{needs}
 use Rattle.join.proofs.halted.Statement.{statement}

@@ -1,7 +1,7 @@
 -- `join::join` meets its contract. Assumes nothing.
 use mathlib.Core.Path.{sym, _∙_}
 use borrow.Author.Tests.{not-true, not-false}
-use Rattle.store.specs.Look.{lent}
+use Rattle.store_look.specs.Look.{lent}
 use Rattle.history.specs.History.{World}
 use Rattle.join.specs.Join.{store}
 use Rattle.join.proofs.Fair.{told, join-2, join-2-second, join-on}

@@ -5,7 +5,7 @@ use mathlib.Core.Path.{_≡_, sym, ap, _∙_, subst}
 use mathlib.Core.List.{List}
 use native.Mathlib.Omega.{arith}
 use lib.ListN.{length}
-use Rattle.store.specs.Look.{Lent, lent}
+use Rattle.store_look.specs.Look.{Lent, lent}
 use Rattle.report_lanes.specs.declared.NextLane.the-variants.{Lane}
 use Rattle.report_lanes.specs.Measure.{nextLaneOf, Small}
 use Rattle.history.specs.History.{World}

@@ -3,7 +3,7 @@ use mathlib.Core.Path.{ap, _∙_}
 use Prim.Native.Nat.{ℕ, _+_, _-_}
 use native.Mathlib.Omega.{arith}
 use borrow.Author.Needs.{needs}
-use Rattle.expull.proofs.Laws.Header.{size-least}
+use Rattle.expull_header.proofs.Laws.{size-least}
 use Rattle.lane_pieces.proofs.Places.{full-low, full-high}
 use Rattle.lane_pieces.proofs.full_bytes.Statement.{statement}
 use Rattle.lane_pieces.proofs.full_bytes.Tie as tie

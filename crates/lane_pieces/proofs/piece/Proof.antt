@@ -4,10 +4,10 @@ use mathlib.Core.Path.{_≡_, sym, ap, subst, _∙_}
 use borrow.Author.Needs.{needs}
 use lib.ListN.{length}
 use Rattle.limits.specs.Refusals.{readingPiece, permitted}
-use Rattle.store.specs.declared.Lookup.the-variants.{At}
-use Rattle.store.specs.Look.{lent}
-use Rattle.store.proofs.Found.{lookup-held}
-use Rattle.store.proofs.Whole.{whole-facts}
+use Rattle.store_look.specs.declared.Lookup.the-variants.{At}
+use Rattle.store_look.specs.Look.{lent}
+use Rattle.store_look.proofs.Found.{lookup-held}
+use Rattle.store_state.proofs.Whole.{whole-facts}
 use Rattle.lane_pieces.specs.declared.Pieced.{Pieced}
 use Rattle.lane_pieces.specs.Piece.{Out, out}
 use Rattle.lane_pieces.specs.Said.{saidPieced}

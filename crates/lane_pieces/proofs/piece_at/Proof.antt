@@ -6,9 +6,9 @@ use native.Mathlib.Omega.{arith}
 use borrow.Author.Needs.{needs}
 use borrow.Author.Tests.{not-true, not-false}
 use lib.ListN.{length}
-use Rattle.store.proofs.Found.{Headed, head-found, head-lost}
-use Rattle.expull.specs.declared.Header.{Header}
-use Rattle.expull.specs.Header.{laneLength}
+use Rattle.records.proofs.Laws.{Headed, head-found, head-lost}
+use Rattle.expull_header.specs.declared.Header.{Header}
+use Rattle.expull_header.specs.Header.{laneLength}
 use Rattle.lane_pieces.specs.declared.Pieced.the-variants.{Given, Refused}
 use Rattle.lane_pieces.specs.Piece.{pieceLength, out, pieceAt}
 use Rattle.lane_pieces.proofs.Pieces.{piece-4, piece-2, piece-8, piece-none, piece-put}

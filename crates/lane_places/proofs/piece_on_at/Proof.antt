@@ -6,10 +6,10 @@ use native.Mathlib.Omega.{arith}
 use borrow.Author.Needs.{needs}
 use borrow.Author.Tests.{not-true, not-false}
 use lib.ListN.{length}
-use Rattle.store.proofs.Found.{Headed, head-found, head-lost}
-use Rattle.expull.specs.declared.Header.{Header}
-use Rattle.expull.specs.Header.{laneLength}
-use Rattle.expull.proofs.Laws.Header.{length-most}
+use Rattle.records.proofs.Laws.{Headed, head-found, head-lost}
+use Rattle.expull_header.specs.declared.Header.{Header}
+use Rattle.expull_header.specs.Header.{laneLength}
+use Rattle.expull_header.proofs.Laws.{length-most}
 use Rattle.lane_pieces.specs.declared.Pieced.the-variants.{Refused}
 use Rattle.lane_pieces.specs.Piece.{pieceLength}
 use Rattle.lane_places.specs.PieceOn.{fitsLength, out}

@@ -19,7 +19,8 @@ page-local-addr-requires c κs = c .before .pre
 returns : tie.Need-returns
 returns c =
     let a = c .before .before .before .before .args in
-    sym (good-past (a .arena) (a .at) (a .n) (subst (λ (p : ℕ). a .arena .page < p) (c .before .before .before .page-id .ensures) (c .if1 .taken)))
+    sym (good-past (a .arena) (a .at) (a .n)
+    (subst (λ (p : ℕ). a .arena .page < p) (c .before .before .before .page-id .ensures) (c .if1 .taken)))
 
 used-on-requires : tie.Need-used-on-requires
 used-on-requires c κs = search needs
@@ -29,15 +30,19 @@ returns-2 c =
     let a = c .before .before .before .before .before .before .args in
     let p = c .before .before .before .before .before .page-id .ensures in
     let q = c .before .before .before .before .page-local-addr .ensures in
-    let u : c .before .used-on .result ≡ usedOn (a .arena) (pageOf (a .arena .size) (a .at)) = c .before .used-on .ensures ∙ ap (usedOn (a .arena)) p in
-    sym (good-over (a .arena) (a .at) (a .n) (subst (λ (k : ℕ). k < placeOf (a .arena .size) (a .at)) u (subst (λ (k : ℕ). c .before .used-on .result < k) q (c .if2 .taken))))
+    let u : c .before .used-on .result ≡ usedOn (a .arena) (pageOf (a .arena .size) (a .at)) =
+    c .before .used-on .ensures ∙ ap (usedOn (a .arena)) p in
+    sym (good-over (a .arena) (a .at) (a .n)
+    (subst (λ (k : ℕ). k < placeOf (a .arena .size) (a .at)) u
+    (subst (λ (k : ℕ). c .before .used-on .result < k) q (c .if2 .taken))))
 
 returns-3 : tie.Need-returns-3
 returns-3 c =
     let a = c .before .before .before .before .before .before .args in
     let p = c .before .before .before .before .before .page-id .ensures in
     let q = c .before .before .before .before .page-local-addr .ensures in
-    let u : c .before .used-on .result ≡ usedOn (a .arena) (pageOf (a .arena .size) (a .at)) = c .before .used-on .ensures ∙ ap (usedOn (a .arena)) p in
+    let u : c .before .used-on .result ≡ usedOn (a .arena) (pageOf (a .arena .size) (a .at)) =
+    c .before .used-on .ensures ∙ ap (usedOn (a .arena)) p in
     ap (λ (k : ℕ). leb (a .n) (c .before .used-on .result - k)) q
     ∙ good-within (a .arena) (a .at) (a .n) (c .before .used-on .result) u (omega arith) (omega arith)
 

@@ -16,7 +16,9 @@ is-good-span-requires c κs =
 returns : tie.Need-returns
 returns c =
     let a = c .before .before .before .args in
-    c .is-good-span .ensures ∙ sym (reach-good (a .arena) (a .len) (a .at) (a .n) (sym (c .before .before .is-sensible .ensures) ∙ c .before .if1 .taken))
+    c .is-good-span .ensures
+    ∙ sym (reach-good (a .arena) (a .len) (a .at) (a .n)
+    (sym (c .before .before .is-sensible .ensures) ∙ c .before .if1 .taken))
 
 returns-2 : tie.Need-returns-2
 returns-2 c =

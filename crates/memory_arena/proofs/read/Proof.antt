@@ -27,10 +27,13 @@ part-copy-in-start c = search needs
 
 -- the span lies in the pages
 inside : (c : tie.Then1)
-    → c .before .before .before .before .args .at + length (c .before .before .before .before .args .output .now) ≤ length (c .before .before .before .before .args .pages .now)
+    → c .before .before .before .before .args .at + length
+    (c .before .before .before .before .args .output .now) ≤ length
+    (c .before .before .before .before .args .pages .now)
 inside c =
     let a = c .before .before .before .before .args in
-    reach-in (a .arena) (length (a .pages .now)) (a .at) (length (a .output .now)) (sym (c .before .is-reachable .ensures) ∙ c .if1 .taken)
+    reach-in (a .arena) (length (a .pages .now)) (a .at) (length (a .output .now))
+    (sym (c .before .is-reachable .ensures) ∙ c .if1 .taken)
 
 part-copy-in-end : tie.Need-part-copy-in-end
 part-copy-in-end c = omega (arith, inside (c .before))
@@ -46,17 +49,23 @@ unfolding readSpan
 returns c =
     let a = c .before .before .before .before .before .before .before .before .before .args in
     let n = length (a .output .now) in
-    let e : take (a .at + n - a .at) (drop (a .at) (a .pages .now)) ≡ readSpan (a .at) n (a .pages .now) = ap (λ (k : ℕ). take k (drop (a .at) (a .pages .now))) (add-sub-cancel-left (a .at) n) in
+    let e : take (a .at + n - a .at) (drop (a .at) (a .pages .now)) ≡ readSpan (a .at) n (a .pages .now) =
+    ap (λ (k : ℕ). take k (drop (a .at) (a .pages .now))) (add-sub-cancel-left (a .at) n) in
     let l = length-span (a .at) n (a .pages .now) (inside (c .before .before .before .before .before)) in (
       ap (out Done) (c .before .before .copy-in .ensures ∙ overwrite-all _ (a .output .now) (ap length e ∙ l) ∙ e)
-          ∙ sym (read-done (a .arena) (a .pages .now) (a .at) (a .output .now) (sym (c .before .before .before .before .before .before .is-reachable .ensures) ∙ c .before .before .before .before .before .if1 .taken)),
+          ∙ sym (read-done (a .arena) (a .pages .now) (a .at) (a .output .now)
+          (sym (c .before .before .before .before .before .before .is-reachable .ensures)
+          ∙ c .before .before .before .before .before .if1 .taken)),
       refl,
     )
 
 returns-2 : tie.Need-returns-2
 returns-2 c =
-    let a = c .before .before .before .before .args in
-    (sym (read-declined (a .arena) (a .pages .now) (a .at) (a .output .now) (sym (c .before .is-reachable .ensures) ∙ c .if1 .left)), refl)
+    let a = c .before .before .before .before .args in (
+      sym (read-declined (a .arena) (a .pages .now) (a .at) (a .output .now)
+          (sym (c .before .is-reachable .ensures) ∙ c .if1 .left)),
+      refl,
+    )
 
 pub read-spec : {M : Type 1} → statement M
 read-spec =

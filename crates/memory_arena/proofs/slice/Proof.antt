@@ -15,7 +15,9 @@ is-reachable-requires : tie.Need-is-reachable-requires
 is-reachable-requires c κs = search needs
 
 -- the span lies in the pages
-inside : (c : tie.Then1) → c .before .before .before .args .at + c .before .before .before .args .n ≤ length (c .before .before .before .args .pages .now)
+inside : (c : tie.Then1)
+    → c .before .before .before .args .at + c .before .before .before .args .n ≤ length
+    (c .before .before .before .args .pages .now)
 inside c =
     let a = c .before .before .before .args in
     reach-in (a .arena) (length (a .pages .now)) (a .at) (a .n) (sym (c .before .is-reachable .ensures) ∙ c .if1 .taken)

@@ -25,7 +25,8 @@ wrapping-mul-requires c κs = search needs
 returns-2 : tie.Need-returns-2
 returns-2 c =
     let a = c .before .before .before .before .before .before .args in
-    c .wrapping-mul .ensures ∙ ap (λ (k : ℕ). wrapMul (bitXor (a .h) k) m) (c .before .le-upto-3 .ensures) ∙ sym (taken-1 (a .h) (a .s .now) (omega arith))
+    c .wrapping-mul .ensures ∙ ap (λ (k : ℕ). wrapMul (bitXor (a .h) k) m) (c .before .le-upto-3 .ensures)
+    ∙ sym (taken-1 (a .h) (a .s .now) (omega arith))
 
 shared-slice-read-le-upto-3-2 : tie.Need-shared-slice-read-le-upto-3-2
 shared-slice-read-le-upto-3-2 c = search needs
@@ -42,7 +43,8 @@ wrapping-mul-requires-2 c κs = search needs
 returns-3 : tie.Need-returns-3
 returns-3 c =
     let a = c .before .before .before .before .before .before .before .before .args in
-    c .wrapping-mul2 .ensures ∙ ap (λ (k : ℕ). wrapMul (bitXor (a .h) k) m) (c .before .le-upto-32 .ensures) ∙ sym (taken-2 (a .h) (a .s .now) (omega arith))
+    c .wrapping-mul2 .ensures ∙ ap (λ (k : ℕ). wrapMul (bitXor (a .h) k) m) (c .before .le-upto-32 .ensures)
+    ∙ sym (taken-2 (a .h) (a .s .now) (omega arith))
 
 shared-slice-read-le-upto-3-4 : tie.Need-shared-slice-read-le-upto-3-4
 shared-slice-read-le-upto-3-4 c = search needs
@@ -62,7 +64,8 @@ wrapping-mul-requires-3 c κs = search needs
 returns-4 : tie.Need-returns-4
 returns-4 c =
     let a = c .before .before .before .before .before .before .before .before .before .args in
-    c .wrapping-mul3 .ensures ∙ ap (λ (k : ℕ). wrapMul (bitXor (a .h) k) m) (c .before .le-upto-33 .ensures) ∙ sym (taken-3 (a .h) (a .s .now) (omega arith))
+    c .wrapping-mul3 .ensures ∙ ap (λ (k : ℕ). wrapMul (bitXor (a .h) k) m) (c .before .le-upto-33 .ensures)
+    ∙ sym (taken-3 (a .h) (a .s .now) (omega arith))
 
 pub last-spec : {M : Type 1} → statement M
 last-spec =

@@ -4,9 +4,9 @@ use Prim.Native.Nat.{ℕ, _-_}
 use mathlib.Core.Path.{_≡_, sym, ap, _∙_}
 use native.Mathlib.Omega.{arith}
 use lib.ListN.{take}
-use Rattle.store.specs.Said.{saidAppended}
-use Rattle.store.specs.Look.{lent}
-use Rattle.store.specs.Append.{appendOf}
+use Rattle.store_append.specs.Said.{saidAppended}
+use Rattle.store_look.specs.Look.{lent}
+use Rattle.store_append.specs.Append.{appendOf}
 use Rattle.readings.proofs.Fronts.{same-numbers}
 use Rattle.readings.proofs.append_front.Statement.{statement}
 use Rattle.readings.proofs.append_front.Tie as tie

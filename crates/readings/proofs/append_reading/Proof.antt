@@ -8,8 +8,8 @@ use Rattle.vint.specs.Vint.{writeVint}
 use Rattle.signed.specs.Signed.{difference, stored}
 use Rattle.signed.proofs.Laws.{difference-fits}
 use Rattle.signed.proofs.Steps.{result-is}
-use Rattle.store.specs.Look.{lent}
-use Rattle.store.specs.Append.{appendOf}
+use Rattle.store_look.specs.Look.{lent}
+use Rattle.store_append.specs.Append.{appendOf}
 use Rattle.readings.proofs.Fronts.{vint-front, vint-room, reading-is}
 use Rattle.readings.proofs.append_reading.Statement.{statement}
 use Rattle.readings.proofs.append_reading.Tie as tie

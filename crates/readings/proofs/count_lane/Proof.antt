@@ -3,7 +3,7 @@ use borrow.Author.Needs.{needs}
 use mathlib.Core.Path.{ap, _∙_}
 use mathlib.Core.List.{[], _∷_}
 use lib.IntN.{pos}
-use Rattle.expull.specs.Blocks.{laneBytes}
+use Rattle.expull_walk.specs.Blocks.{laneBytes}
 use Rattle.reading_run.specs.Run.{Out, endOf}
 use Rattle.reading_run.proofs.Came.{ran}
 use Rattle.readings.proofs.count_lane.Statement.{statement}

@@ -4,9 +4,9 @@ use mathlib.Core.Bool.{true}
 use mathlib.Core.Path.{_≡_, sym, ap, subst, _∙_}
 use lib.ListN.{length}
 use Rattle.limits.specs.Refusals.{readingReadings, permitted}
-use Rattle.store.specs.Look.{lent}
-use Rattle.store.proofs.Found.{lookup-held}
-use Rattle.store.proofs.Whole.{whole-facts}
+use Rattle.store_look.specs.Look.{lent}
+use Rattle.store_look.proofs.Found.{lookup-held}
+use Rattle.store_state.proofs.Whole.{whole-facts}
 use Rattle.readings.specs.declared.Recalled.{Recalled}
 use Rattle.readings.specs.Readings.{Out, out}
 use Rattle.readings.specs.Said.{saidRecalled}

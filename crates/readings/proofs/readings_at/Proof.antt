@@ -7,11 +7,11 @@ use mathlib.Core.Path.{_≡_, sym, ap, subst, _∙_}
 use native.Mathlib.Omega.{arith}
 use borrow.Author.Tests.{not-true, not-false}
 use lib.ListN.{length}
-use Rattle.expull.specs.Header.{blockCount}
-use Rattle.expull.specs.Blocks.{goodBlocks, laneBytes}
-use Rattle.expull.proofs.Laws.Header.{sound-facts}
-use Rattle.store.specs.Look.{lent}
-use Rattle.store.proofs.Found.{Headed, head-found, head-lost}
+use Rattle.expull_header.specs.Header.{blockCount}
+use Rattle.expull_walk.specs.Blocks.{goodBlocks, laneBytes}
+use Rattle.expull_header.proofs.Laws.{sound-facts}
+use Rattle.store_look.specs.Look.{lent}
+use Rattle.records.proofs.Laws.{Headed, head-found, head-lost}
 use Rattle.reading_run.specs.Run.{Out}
 use Rattle.reading_run.proofs.Came.{ran}
 use Rattle.readings.specs.declared.Recalled.the-variants.{Readings, Refused}

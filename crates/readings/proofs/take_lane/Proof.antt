@@ -6,7 +6,7 @@ use native.Mathlib.Omega.{arith}
 use borrow.Author.Needs.{needs}
 use lib.ListN.{length}
 use Rattle.limits.specs.Limits.{linkSize}
-use Rattle.expull.proofs.Laws.Header.{sound-facts}
+use Rattle.expull_header.proofs.Laws.{sound-facts}
 use Rattle.readings.proofs.Lanes.{Walkable, Walking, Ready, walking-none, walking-begun, same-long}
 use Rattle.readings.proofs.Lanes.{walking-piece, walking-next, walking-last, walking-end}
 use Rattle.readings.proofs.take_lane.Statement.{statement}

@@ -1,5 +1,5 @@
 use Rattle.spans.specs.Span.{readSpan}
-use Rattle.store.specs.Look.{lent}
+use Rattle.store_look.specs.Look.{lent}
 use Rattle.replay.specs.Script.{world}
 use Rattle.history.specs.History.{left}
 use mathlib.Core.Path.{ap, _∙_}
@@ -44,7 +44,8 @@ returns : tie.Need-returns
 unfolding readSpan
 returns c =
     let d = c .before .before .before .before .before .before .before .append in
-    ap (λ s. world s (lent (d .last .1 .0) (d .last .1 .1 .0) (d .last .1 .1 .1 .0))) (c .state-of .ensures) ∙ ap left (d .ensures .0)
+    ap (λ s. world s (lent (d .last .1 .0) (d .last .1 .1 .0) (d .last .1 .1 .1 .0))) (c .state-of .ensures)
+    ∙ ap left (d .ensures .0)
 
 pub play-entry-spec : {M : Type 1} → statement M
 play-entry-spec =

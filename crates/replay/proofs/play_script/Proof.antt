@@ -4,7 +4,7 @@ use Rattle.entries.specs.Form.{Inside}
 use Rattle.replay.proofs.Laws.{callsFrom, turn-ends, turn-plays, turns-over}
 use Rattle.replay.specs.Script.{world, callsOf}
 use Rattle.history.specs.History.{play}
-use Rattle.store.specs.Look.{lent}
+use Rattle.store_look.specs.Look.{lent}
 use borrow.Author.Needs.{needs}
 use native.Mathlib.Omega.{arith}
 use lib.ListN.{length}
@@ -15,8 +15,10 @@ use Rattle.replay.proofs.play_script.Tie as tie
 
 abbrev Inv-loop : tie.InvT-loop
 Inv-loop table₀ keys₀ lists₀ script state₀ at₀ turns₀ table keys lists state at turns =
-    (at ≤ length script) × ((length table ≡ length table₀) × ((length keys ≡ length keys₀) × ((length lists ≡ length lists₀)
-    × (play (callsOf script) (world state₀ (lent table₀ keys₀ lists₀)) ≡ play (callsFrom turns script at) (world state (lent table keys lists))))))
+    (at ≤ length script) × ((length table ≡ length table₀)
+    × ((length keys ≡ length keys₀) × ((length lists ≡ length lists₀)
+    × (play (callsOf script) (world state₀ (lent table₀ keys₀ lists₀))
+    ≡ play (callsFrom turns script at) (world state (lent table keys lists))))))
 
 abbrev μ-loop : tie.MeasureT-loop
 μ-loop table₀ keys₀ lists₀ script state₀ at₀ turns₀ table keys lists state at turns = turns
@@ -54,7 +56,11 @@ same-length-3 : tie.Need-same-length-3 Inv-loop μ-loop
 same-length-3 c = c .before .before .before .before .loop .inv .1 .1 .1 .0
 
 returns : tie.Need-returns Inv-loop μ-loop
-returns c = let l = c .before .before .before .before .loop in sym (l .inv .1 .1 .1 .1 ∙ turn-ends (c .before .before .before .before .before .before .before .before .before .args .script .now) (l .at) (l .turns) (world (l .state) (lent (l .table) (l .keys) (l .lists))) (sym (c .enum-told .given .1) ∙ c .before .before .entry-at .ensures .0))
+returns c = let l = c .before .before .before .before .loop in
+    sym (l .inv .1 .1 .1 .1
+    ∙ turn-ends (c .before .before .before .before .before .before .before .before .before .args .script .now) (l .at)
+    (l .turns) (world (l .state) (lent (l .table) (l .keys) (l .lists)))
+    (sym (c .enum-told .given .1) ∙ c .before .before .entry-at .ensures .0))
 
 add-play-entry : tie.Need-add-play-entry Inv-loop μ-loop
 add-play-entry c = search needs
@@ -72,10 +78,12 @@ loop-less c = search needs
 
 loop-again : tie.Need-loop-again Inv-loop μ-loop
 loop-again c =
-    let l = c .before .before .before .before .before .before .before .before .before .before .before .before .before .before .before .loop in
+    let l = c .before .before .before .before .before .before .before .before .before .before .before .before .before
+    .before .before .loop in
     let p = c .before .before .before .before .before .before .play-entry in
     let e = c .before .before .before .before .before .before .before .before .before .before .before .e .given in
-    let s = c .before .before .before .before .before .before .before .before .before .before .before .before .before .before .before .before .before .before .before .before .args .script .now in (
+    let s = c .before .before .before .before .before .before .before .before .before .before .before .before .before
+    .before .before .before .before .before .before .before .args .script .now in (
       inside (c .before .before .before .before .before .before .before .before .before .before .before) .1 .1 .1,
       (
         p .kept .1 .0 ∙ l .inv .1 .0,
@@ -84,7 +92,12 @@ loop-again c =
           (
             p .kept .1 .1 .1 .0 ∙ l .inv .1 .1 .1 .0,
             l .inv .1 .1 .1 .1
-                ∙ turn-plays s (l .at) (l .turns) (l .state) (lent (l .table) (l .keys) (l .lists)) (e .0 .0) (e .0 .1 .0) (e .0 .1 .1 .0) (c .before .before .before .before .before .before .before .before .before .before .before .before .before .before .loop-test .taken) (sym (e .1) ∙ c .before .before .before .before .before .before .before .before .before .before .before .before .before .entry-at .ensures .0)
+                ∙ turn-plays s (l .at) (l .turns) (l .state) (lent (l .table) (l .keys) (l .lists)) (e .0 .0)
+                (e .0 .1 .0) (e .0 .1 .1 .0)
+                (c .before .before .before .before .before .before .before .before .before .before .before .before
+                .before .before .loop-test .taken)
+                (sym (e .1) ∙ c .before .before .before .before .before .before .before .before .before .before
+                .before .before .before .entry-at .ensures .0)
                 ∙ ap (play (callsFrom (l .turns - 1) s (e .0 .1 .1 .0))) (sym (p .ensures)),
           ),
         ),
@@ -101,7 +114,10 @@ same-length-6 : tie.Need-same-length-6 Inv-loop μ-loop
 same-length-6 c = c .before .loop .inv .1 .1 .1 .0
 
 returns-2 : tie.Need-returns-2 Inv-loop μ-loop
-returns-2 c = let l = c .before .loop in sym (l .inv .1 .1 .1 .1 ∙ turns-over (c .before .before .before .before .before .before .args .script .now) (l .at) (l .turns) (world (l .state) (lent (l .table) (l .keys) (l .lists))) (c .loop-test .left))
+returns-2 c = let l = c .before .loop in
+    sym (l .inv .1 .1 .1 .1
+    ∙ turns-over (c .before .before .before .before .before .before .args .script .now) (l .at) (l .turns)
+    (world (l .state) (lent (l .table) (l .keys) (l .lists))) (c .loop-test .left))
 
 pub play-script-spec : {M : Type 1} → statement M
 play-script-spec =

@@ -1,8 +1,8 @@
 use Rattle.replay.proofs.Laws.{replay-barred, replay-made}
 use Rattle.replay.specs.Script.{out, replayOf, Replayed}
-use Rattle.store.specs.Look.{Lent, lent}
-use Rattle.store.specs.Create.{out as Create·out}
-use Rattle.store.specs.declared.Created.{Created}
+use Rattle.store_look.specs.Look.{Lent, lent}
+use Rattle.store_create.specs.Create.{out as Create·out}
+use Rattle.store_create.specs.declared.Created.{Created}
 use mathlib.Core.Path.{_≡_, sym, ap, _∙_, subst}
 use borrow.Author.Needs.{needs}
 use Rattle.replay.proofs.replay.Statement.{statement}
@@ -52,8 +52,10 @@ same-length-6 c = search needs
 
 returns-2 : tie.Need-returns-2
 returns-2 c =
-    let a = c .before .before .before .before .before .before .before .before .before .before .before .before .before .before .before .before .before .before .before .before .before .before .before .args in
-    let d = c .before .before .before .before .before .before .before .before .before .before .before .before .before .before .before .create in
+    let a = c .before .before .before .before .before .before .before .before .before .before .before .before .before
+    .before .before .before .before .before .before .before .before .before .before .args in
+    let d = c .before .before .before .before .before .before .before .before .before .before .before .before .before
+    .before .before .create in
     let g = c .before .before .before .before .before .before .before .before .before .before .before .made .given in
     let p = c .before .before .before .before .before .before .play-script in
     let m : Lent = lent (a .table .now) (a .keys .now) (a .lists .now) in

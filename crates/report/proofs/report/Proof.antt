@@ -7,7 +7,7 @@ use lib.ListN.{length}
 use borrow.Author.Needs.{needs}
 use borrow.Author.Tests.{not-true, not-false}
 use Rattle.spans.proofs.Laws.{length-overwrite}
-use Rattle.store.specs.Look.{lent}
+use Rattle.store_look.specs.Look.{lent}
 use Rattle.report_text.specs.Text.{decimal, headText, lanesText}
 use Rattle.report.specs.declared.Reported.{Reported}
 use Rattle.report.specs.Report.{out}
@@ -16,7 +16,6 @@ use Rattle.report.specs.Write.{lanesMet}
 use Rattle.report_lanes.proofs.Measuring.{decimal-most}
 use Rattle.report.proofs.Written.{head-long}
 use Rattle.report.proofs.Reporting.{report-2, report-halted, sums, head-size, report-8, report-done, told}
-use borrow.Author.Needs.{needs}
 use Rattle.report.proofs.report.Statement.{statement}
 use Rattle.report.proofs.report.Tie as tie
 

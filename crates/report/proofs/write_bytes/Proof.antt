@@ -1,7 +1,7 @@
 -- `report::write_bytes` meets its contract. Assumes nothing.
 use native.Mathlib.Omega.{arith}
 use lib.ListN.{length-take, length-drop}
-use Rattle.store.specs.Look.{lent}
+use Rattle.store_look.specs.Look.{lent}
 use Rattle.report.proofs.Written.{spread-back, standing-lane, standing-read}
 use borrow.Author.Needs.{needs}
 use Rattle.report.proofs.write_bytes.Statement.{statement}

@@ -6,15 +6,15 @@ use native.Mathlib.Omega.{arith}
 use lib.ListN.{length, take, drop, length-append, length-set}
 use Rattle.spans.specs.Span.{overwrite}
 use Rattle.spans.proofs.Laws.{store-one}
-use Rattle.expull.specs.Blocks.{laneBytes}
-use Rattle.store.specs.Look.{lent, headerOf}
+use Rattle.expull_walk.specs.Blocks.{laneBytes}
+use Rattle.records.specs.Record.{headerOf}
+use Rattle.store_look.specs.Look.{lent}
 use Rattle.report_text.specs.Text.{newline, termWord, lenWord, bytesWord, hex, decimal, line}
 use Rattle.report_text.proofs.Values.{hex-length}
 use Rattle.report_put.proofs.Laws.{line-long}
 use Rattle.report_lanes.specs.Lanes.{laneAt}
 use Rattle.report.proofs.Written.{Put, put-first, put-next, put-length, standing-key, standing-lane, lane-key}
-use Rattle.report.proofs.Written.{key-size}
-use Rattle.report.proofs.Written.{lane-own, lane-lines}
+use Rattle.report.proofs.Written.{key-size, lane-own, lane-lines}
 use borrow.Author.Needs.{needs}
 use Rattle.report.proofs.write_lane.Statement.{statement}
 use Rattle.report.proofs.write_lane.Tie as tie

@@ -6,8 +6,8 @@ use native.Mathlib.Omega.{arith}
 use lib.ListN.{length}
 use borrow.Author.Needs.{needs}
 use Rattle.limits.specs.Limits.{bucketLimit}
-use Rattle.store.specs.Look.{lent}
-use Rattle.store.proofs.Whole.{whole-facts, buckets-few}
+use Rattle.store_look.specs.Look.{lent}
+use Rattle.store_state.proofs.Whole.{whole-facts, buckets-few}
 use Rattle.report_lanes.specs.Lanes.{gatherFrom}
 use Rattle.report_lanes.specs.Measure.{Small}
 use Rattle.report_lanes.proofs.Measuring.{not-lane, none-left, none-more}

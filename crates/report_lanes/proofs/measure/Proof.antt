@@ -1,17 +1,16 @@
 -- `report_lanes::measure` meets its contract. The invariant, `Measuring`: what is told of all lanes is the sums so far
 -- and what is told of the rest. Assumes nothing.
 use Prim.Native.Nat.{_+_, _-_, _≤_}
-use mathlib.Core.Path.{_≡_, sym, ap, _∙_}
+use mathlib.Core.Path.{_≡_, sym, ap, _∙_, subst}
 use native.Mathlib.Omega.{arith}
 use lib.ListN.{length}
 use borrow.Author.Needs.{needs}
-use Rattle.store.specs.Look.{lent}
-use Rattle.store.proofs.Whole.{whole-facts, buckets-few}
+use Rattle.store_look.specs.Look.{lent}
+use Rattle.store_state.proofs.Whole.{whole-facts, buckets-few}
 use Rattle.report_lanes.specs.declared.NextLane.{NextLane}
 use Rattle.report_lanes.specs.Measure.{Small, Few}
 use Rattle.report_lanes.proofs.Measuring.{Measuring, measuring-starts, measuring-few, measuring-on}
 use Rattle.report_lanes.proofs.Measuring.{measuring-over, measuring-ends, not-lane, few-sums, few-over}
-use mathlib.Core.Path.{subst}
 use Rattle.report_lanes.proofs.measure.Statement.{statement}
 use Rattle.report_lanes.proofs.measure.Tie as tie
 

@@ -1,7 +1,7 @@
 -- `report_lanes::meet` meets its contract. Assumes nothing.
 use mathlib.Core.Path.{sym, ap, _∙_, subst}
 use native.Mathlib.Omega.{arith}
-use Rattle.store.specs.Look.{lent}
+use Rattle.store_look.specs.Look.{lent}
 use Rattle.report_lanes.specs.Measure.{onAnswer, Small}
 use Rattle.report_lanes.proofs.Measuring.{met-is, met-small}
 use borrow.Author.Needs.{needs}

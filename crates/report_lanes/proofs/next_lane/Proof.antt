@@ -2,8 +2,8 @@
 use mathlib.Core.Path.{sym, ap, _∙_}
 use native.Mathlib.Omega.{arith}
 use lib.ListN.{length}
-use Rattle.store.specs.Look.{lent}
-use Rattle.store.proofs.Whole.{whole-facts}
+use Rattle.store_look.specs.Look.{lent}
+use Rattle.store_state.proofs.Whole.{whole-facts}
 use Rattle.report_lanes.proofs.Measuring.{next-held, value-in, next-listed}
 use borrow.Author.Needs.{needs}
 use Rattle.report_lanes.proofs.next_lane.Statement.{statement}

@@ -1,7 +1,7 @@
 -- `report_lanes::on_answer` meets its contract. Assumes nothing.
 use mathlib.Core.Path.{sym, ap, _∙_}
 use borrow.Author.Tests.{eq-eqb, ne-eqb}
-use Rattle.store.specs.declared.Answer.{Answer}
+use Rattle.store_look.specs.declared.Answer.{Answer}
 use Rattle.report_lanes.specs.Measure.{onAnswer}
 use borrow.Author.Needs.{needs}
 use Rattle.report_lanes.proofs.on_answer.Statement.{statement}

@@ -1,6 +1,6 @@
 -- `report_lanes::on_outcome` meets its contract. Assumes nothing.
 use mathlib.Core.Path.{sym, ap}
-use Rattle.store.specs.declared.Outcome.{Outcome}
+use Rattle.store_look.specs.declared.Outcome.{Outcome}
 use Rattle.report_lanes.specs.Measure.{onOutcome}
 use borrow.Author.Needs.{needs}
 use Rattle.report_lanes.proofs.on_outcome.Statement.{statement}

@@ -1,10 +1,9 @@
 -- `report_put::put_decimal` meets its contract. Assumes nothing.
-use Prim.Native.Nat.{_+_, _-_, _*_, _/_, _%_, _≤_, _<_}
+use Prim.Native.Nat.{_+_, _-_, _*_, _/_, _%_, _≤_, _<_, ℕ}
 use mathlib.Core.Path.{_≡_, refl, sym, ap, _∙_}
 use native.Mathlib.Omega.{arith}
 use lib.ListN.{length, drop, length-set, length-drop}
 use borrow.Author.Needs.{needs}
-use Prim.Native.Nat.{ℕ}
 use Rattle.report_text.specs.Text.{decimal}
 use Rattle.report_put.proofs.Laws.{Writing, writing-starts, writing-length, writing-on, writing-room}
 use Rattle.report_put.proofs.Laws.{writing-more, writing-ends, decimal-some}

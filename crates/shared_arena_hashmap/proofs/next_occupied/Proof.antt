@@ -1,4 +1,5 @@
--- `shared_arena_hashmap::next_occupied` meets its contract. The invariant: the answer is that of the buckets from `i + k` on. Assumes nothing.
+-- `shared_arena_hashmap::next_occupied` meets its contract. The invariant: the answer is that of the buckets from `i +
+-- k` on. Assumes nothing.
 use Prim.Native.Nat.{_+_, _-_, _≤_}
 use mathlib.Core.Path.{_≡_, sym, _∙_}
 use native.Mathlib.Nat.{sub-zero, add-zero}
@@ -10,7 +11,8 @@ use Rattle.shared_arena_hashmap.proofs.next_occupied.Statement.{stateme
 use Rattle.shared_arena_hashmap.proofs.next_occupied.Tie as tie
 
 abbrev Inv-loop : tie.InvT-loop
-Inv-loop table first left i k₀ k = (k ≤ left) × (occupiedFrom table first left i ≡ occupiedFrom table first (left - k) (i + k))
+Inv-loop table first left i k₀ k =
+    (k ≤ left) × (occupiedFrom table first left i ≡ occupiedFrom table first (left - k) (i + k))
 
 abbrev μ-loop : tie.MeasureT-loop
 μ-loop table first left i k₀ k = left - k
@@ -37,7 +39,8 @@ returns : tie.Need-returns Inv-loop μ-loop
 returns c =
     let a = c .before .before .before .before .args in
     let l = c .before .before .before .loop in
-    sym (l .inv .1 ∙ occupied-turn (a .table .now) (a .first) (a .left) (a .i) (l .k) (omega arith) ∙ rw (ne-eqb _ _ (c .if1 .taken)))
+    sym (l .inv .1 ∙ occupied-turn (a .table .now) (a .first) (a .left) (a .i) (l .k) (omega arith)
+    ∙ rw (ne-eqb _ _ (c .if1 .taken)))
 
 add-k : tie.Need-add-k Inv-loop μ-loop
 add-k c = omega arith
@@ -48,8 +51,11 @@ loop-less c = omega arith
 loop-again : tie.Need-loop-again Inv-loop μ-loop
 loop-again c =
     let a = c .before .before .before .before .args in
-    let l = c .before .before .before .loop in
-    (omega arith, l .inv .1 ∙ occupied-turn (a .table .now) (a .first) (a .left) (a .i) (l .k) (omega arith) ∙ rw (eq-eqb _ _ (c .if1 .left)))
+    let l = c .before .before .before .loop in (
+      omega arith,
+      l .inv .1 ∙ occupied-turn (a .table .now) (a .first) (a .left) (a .i) (l .k) (omega arith)
+          ∙ rw (eq-eqb _ _ (c .if1 .left)),
+    )
 
 returns-2 : tie.Need-returns-2 Inv-loop μ-loop
 returns-2 c =

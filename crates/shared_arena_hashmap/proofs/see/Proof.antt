@@ -39,7 +39,8 @@ returns-2 : tie.Need-returns-2
 unfolding seenAt
 returns-2 c =
     let a = c .before .before .before .before .before .before .before .before .args in
-    let e1 : eqb (addressAt (a .table .now) (a .bucket)) nullAddress ≡ false = ne-eqb _ _ (c .before .before .before .if1 .left) in
+    let e1 : eqb (addressAt (a .table .now) (a .bucket)) nullAddress ≡ false =
+    ne-eqb _ _ (c .before .before .before .if1 .left) in
     let e2 : eqb (hashAt (a .table .now) (a .bucket)) (a .hash) ≡ true = eq-eqb _ _ (c .before .if2 .taken) in
     rw (e1, e2) (c .see-record .ensures)
 
@@ -47,7 +48,8 @@ returns-3 : tie.Need-returns-3
 unfolding seenAt
 returns-3 c =
     let a = c .before .before .before .before .before .before .before .args in
-    let e1 : eqb (addressAt (a .table .now) (a .bucket)) nullAddress ≡ false = ne-eqb _ _ (c .before .before .if1 .left) in
+    let e1 : eqb (addressAt (a .table .now) (a .bucket)) nullAddress ≡ false =
+    ne-eqb _ _ (c .before .before .if1 .left) in
     let e2 : eqb (hashAt (a .table .now) (a .bucket)) (a .hash) ≡ false = ne-eqb _ _ (c .if2 .left) in
     rw (e1, e2)
 

@@ -1,12 +1,15 @@
--- `shared_arena_hashmap::see_record` meets its contract. A good record lies in the key pages, so its key is a part of them. Assumes nothing.
+-- `shared_arena_hashmap::see_record` meets its contract. A good record lies in the key pages, so its key is a part of
+-- them. Assumes nothing.
 use mathlib.Core.Bool.{Bool, true, false, cond}
 use mathlib.Core.Path.{_≡_, sym, _∙_}
 use native.Mathlib.Omega.{arith}
 use borrow.Author.Tests.{not-true, not-false}
 use borrow.Author.Needs.{needs}
-use Rattle.shared_arena_hashmap.specs.Probe.{goodRecord, seenRecord}
+use Rattle.records.specs.Record.{goodRecord}
+use Rattle.shared_arena_hashmap.specs.Probe.{seenRecord}
 use Rattle.shared_arena_hashmap.specs.declared.Seen.the-variants.{Same, Other}
-use Rattle.shared_arena_hashmap.proofs.Laws.{good-record-in, seen-broken, seen-good}
+use Rattle.records.proofs.Laws.{good-record-in}
+use Rattle.shared_arena_hashmap.proofs.Laws.{seen-broken, seen-good}
 use Rattle.shared_arena_hashmap.proofs.see_record.Statement.{statement}
 use Rattle.shared_arena_hashmap.proofs.see_record.Tie as tie
 
@@ -16,7 +19,8 @@ is-good-record-requires c κs = search needs
 returns : tie.Need-returns
 returns c =
     let a = c .before .before .before .before .args in
-    sym (seen-broken (a .keys .now) (a .arena) (a .at) (a .name .now) (sym (c .before .is-good-record .ensures) ∙ not-true _ (c .if1 .taken)))
+    sym (seen-broken (a .keys .now) (a .arena) (a .at) (a .name .now)
+    (sym (c .before .is-good-record .ensures) ∙ not-true _ (c .if1 .taken)))
 
 -- behind the first test: the parameters, and that the record is good
 abbrev start : tie.Else1 → tie.Start
@@ -45,7 +49,11 @@ part-key-start c = search needs
 part-key-end : tie.Need-part-key-end
 part-key-end c =
     let a = start (c .before) .args in
-    omega (arith, c .key-length .ensures .0, good-record-in (a .arena) (a .keys .now) (a .at) (start (c .before) .pre) (stands (c .before)))
+    omega (
+      arith,
+      c .key-length .ensures .0,
+      good-record-in (a .arena) (a .keys .now) (a .at) (start (c .before) .pre) (stands (c .before)),
+    )
 
 fast-short-slice-compare-requires : tie.Need-fast-short-slice-compare-requires
 fast-short-slice-compare-requires c κs = search needs
@@ -55,7 +63,8 @@ abbrev good : tie.After-fast-short-slice-compare → tie.Else1
 good c = c .before .before .before
 
 compared : (c : tie.After-fast-short-slice-compare) (u : Bool) → c .fast-short-slice-compare .result ≡ u
-    → seenRecord (start (good c) .args .keys .now) (start (good c) .args .arena) (start (good c) .args .at) (start (good c) .args .name .now)
+    → seenRecord (start (good c) .args .keys .now) (start (good c) .args .arena) (start (good c) .args .at)
+    (start (good c) .args .name .now)
     ≡ cond u (Same (start (good c) .args .at)) Other
 compared c u e =
     let a = start (good c) .args in

@@ -1,5 +1,5 @@
--- `vint::answered` meets its contract: the group given is the last group of the whole sum, and a number whose form isn't
--- another's is below 2^32. Assumes nothing.
+-- `vint::answered` meets its contract: the group given is the last group of the whole sum, and a number whose form
+-- isn't another's is below 2^32. Assumes nothing.
 use Prim.Native.Nat.{ℕ}
 use mathlib.Core.Path.{sym, ap, _∙_}
 use native.Mathlib.Omega.{arith}

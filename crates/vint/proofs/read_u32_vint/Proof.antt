@@ -1,5 +1,6 @@
--- `vint::read_u32_vint` meets its contract. The loop's invariant, `Reading`: what is taken in all is the sum so far with the unit
--- times what is taken from here, and the unit is 128 to the bytes so far. The measure is how many more may be taken. Assumes nothing.
+-- `vint::read_u32_vint` meets its contract. The loop's invariant, `Reading`: what is taken in all is the sum so far
+-- with the unit times what is taken from here, and the unit is 128 to the bytes so far. The measure is how many more
+-- may be taken. Assumes nothing.
 use Prim.Native.Nat.{ℕ, _+_, _-_, _*_, _^_, _≤_, _<_}
 use mathlib.Core.Path.{refl, ap, _∙_}
 use native.Mathlib.Numerals.{add-one}
@@ -7,8 +8,8 @@ use native.Mathlib.Omega.{arith}
 use lib.ListN.{length, getD}
 use Rattle.limits.specs.Limits.{vintLimit}
 use Rattle.vint.specs.Vint.{ended, unended, answerOf}
-use Rattle.vint.proofs.Laws.{goes-on, stops, Reading, reading-starts, unit-most, reading-on, last-byte, reading-last}
-use Rattle.vint.proofs.Laws.{reading-stops, answers}
+use Rattle.vint.proofs.Laws.{goes-on, stops, Reading, reading-starts, unit-most, reading-on, last-byte}
+use Rattle.vint.proofs.Laws.{reading-last, reading-stops, answers}
 use Rattle.vint.proofs.read_u32_vint.Statement.{statement}
 use Rattle.vint.proofs.read_u32_vint.Tie as tie
 
@@ -21,10 +22,12 @@ abbrev μ-loop : tie.MeasureT-loop
 -- in a turn: one more byte may be taken, and is there
 going : (c : tie.In-loop Inv-loop μ-loop)
     → (c .before .loop .at < vintLimit) × (c .before .loop .at < length (c .before .before .before .args .bytes .now))
-going c = goes-on (c .before .loop .at) vintLimit (length (c .before .before .before .args .bytes .now)) (c .loop-test .taken)
+going c =
+    goes-on (c .before .loop .at) vintLimit (length (c .before .before .before .args .bytes .now)) (c .loop-test .taken)
 
 -- what `plus` asks
-fits-in : (c : tie.In-loop Inv-loop μ-loop) → (c .before .loop .unit ≤ 128 ^ 4) × (c .before .loop .sum < c .before .loop .unit)
+fits-in : (c : tie.In-loop Inv-loop μ-loop)
+    → (c .before .loop .unit ≤ 128 ^ 4) × (c .before .loop .sum < c .before .loop .unit)
 fits-in c = (unit-most (c .before .loop .inv) (going c .0), c .before .loop .inv .small)
 
 loop-holds : tie.Need-loop-holds Inv-loop μ-loop

@@ -1,5 +1,5 @@
--- `vint::serialize_vint_u32` meets its contract. The loop's invariant, `Writing`: what is written, then the vint of the rest, is the
--- number's vint; the rest fits the bytes left, which are zeros. The measure is the rest. Assumes nothing.
+-- `vint::serialize_vint_u32` meets its contract. The loop's invariant, `Writing`: what is written, then the vint of the
+-- rest, is the number's vint; the rest fits the bytes left, which are zeros. The measure is the rest. Assumes nothing.
 use mathlib.Core.Path.{refl, _∙_}
 use native.Mathlib.Numerals.{add-one}
 use native.Mathlib.Omega.{arith}
@@ -46,7 +46,8 @@ returns : tie.Need-returns Inv-loop μ-loop
 returns c =
     let l = c .before .before .loop in
     let k = c .before .loop-test .left in
-    rw (c .last .ensures) (λ i. record { bytes = written (l .inv) k i; count = (add-one (l .at) ∙ written-length (l .inv) k) i })
+    rw (c .last .ensures)
+    (λ i. record { bytes = written (l .inv) k i; count = (add-one (l .at) ∙ written-length (l .inv) k) i })
 
 pub serialize-vint-u32-spec : {M : Type 1} → statement M
 serialize-vint-u32-spec =

@@ -4,7 +4,7 @@ use lib.IntN.{ℤ}
 use mathlib.Core.Path.{_≡_, _∙_}
 use mathlib.Core.List.{List}
 use mir.Facts.{toZ-ofZ}
-use Rattle.store.specs.Look.{Lent}
+use Rattle.store_look.specs.Look.{Lent}
 use Rattle.c_above.specs.Above.{driftIn}
 use borrow.Author.Needs.{needs}
 use Rattle.c_exports.proofs.above.nuvrisel_drift.Statement.{statement}

@@ -7,8 +7,8 @@ use native.Mathlib.Omega.{arith}
 use lib.ListN.{length, drop, length-drop}
 use borrow.Author.Needs.{needs}
 use Rattle.report_read.proofs.Noting.{notes-size}
-use Rattle.report_read.proofs.Checking.{Noting, noting-starts, noting-vouch, noting-on, checking-rest, checking-bad}
-use Rattle.report_read.proofs.Checking.{line-room}
+use Rattle.report_read.proofs.Checking.{Noting, noting-starts, noting-vouch, noting-on, checking-rest}
+use Rattle.report_read.proofs.Checking.{checking-bad, line-room}
 use Rattle.report_read.proofs.check.check_noting.Statement.{statement}
 use Rattle.report_read.proofs.check.check_noting.Tie as tie
 

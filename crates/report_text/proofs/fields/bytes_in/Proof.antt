@@ -1,13 +1,11 @@
 -- `report_text::fields::bytes_in` meets its contract. Assumes nothing.
 use Prim.Native.Nat.{_-_}
-use mathlib.Core.Path.{sym, ap, _∙_}
+use mathlib.Core.Path.{sym, ap, _∙_, _≡_}
 use native.Mathlib.Omega.{arith}
 use borrow.Author.Tests.{not-true, not-false}
-use mathlib.Core.Path.{_≡_}
 use mathlib.Core.Bool.{true, false}
 use lib.ListN.{length, drop, length-drop}
-use Rattle.report_text.specs.Values.{hexText}
-use Rattle.report_text.specs.Values.{hexedOf}
+use Rattle.report_text.specs.Values.{hexText, hexedOf}
 use Rattle.report_text.proofs.Words.{begins-long, bytes-in-is, bytes-in-not, hexed-is, rest-part}
 use borrow.Author.Needs.{needs}
 use Rattle.report_text.proofs.fields.bytes_in.Statement.{statement}

@@ -1,4 +1,5 @@
--- `shared_arena_hashmap::grow::clear` meets its contract. The invariant: the whole clearing is that of the `left` buckets from `at` on. Assumes nothing.
+-- `shared_arena_hashmap::grow::clear` meets its contract. The invariant: the whole clearing is that of the `left`
+-- buckets from `at` on. Assumes nothing.
 use Prim.Native.Nat.{_+_, _-_, _*_, _≤_}
 use mathlib.Core.Path.{_≡_, refl, sym, ap, _∙_}
 use native.Mathlib.Omega.{arith}

@@ -1,4 +1,5 @@
--- `shared_arena_hashmap::grow::enter` meets its contract. What `free` answers settles which words change. Assumes nothing.
+-- `shared_arena_hashmap::grow::enter` meets its contract. What `free` answers settles which words change. Assumes
+-- nothing.
 use mathlib.Core.Path.{_≡_, sym, _∙_}
 use borrow.Author.Tests.{eq-eqb, ne-eqb}
 use borrow.Author.Needs.{needs}
@@ -16,7 +17,8 @@ returns : tie.Need-returns
 unfolding entered
 returns c =
     let a = c .before .before .before .before .args in
-    let f : c .before .free .result ≡ freeOf (a .table .now) (a .first) (a .l) (a .hash) = c .before .free .ensures .0 in
+    let f : c .before .free .result ≡ freeOf (a .table .now) (a .first) (a .l) (a .hash) =
+    c .before .free .ensures .0 in
     rw (eq-eqb _ _ (sym f ∙ c .if1 .taken))
 
 add-set-bucket : tie.Need-add-set-bucket
@@ -32,7 +34,8 @@ returns-2 : tie.Need-returns-2
 unfolding entered
 returns-2 c =
     let a = c .before .before .before .before .before .before .before .before .args in
-    let f : c .before .before .before .before .before .free .result ≡ freeOf (a .table .now) (a .first) (a .l) (a .hash) =
+    let f : c .before .before .before .before .before .free .result
+    ≡ freeOf (a .table .now) (a .first) (a .l) (a .hash) =
     c .before .before .before .before .before .free .ensures .0 in
     rw (← f, ne-eqb _ _ (c .before .before .before .before .if1 .left)) (c .before .before .set-bucket .ensures)
 

@@ -1,4 +1,5 @@
--- `shared_arena_hashmap::grow::free` meets its contract. The invariant: the first empty bucket of the probe is the first among `left` from `i`. Assumes nothing.
+-- `shared_arena_hashmap::grow::free` meets its contract. The invariant: the first empty bucket of the probe is the
+-- first among `left` from `i`. Assumes nothing.
 use Prim.Native.Nat.{_<_}
 use mathlib.Core.Path.{_≡_, refl, sym, _∙_}
 use native.Mathlib.Omega.{arith}

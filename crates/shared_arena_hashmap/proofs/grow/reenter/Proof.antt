@@ -1,4 +1,5 @@
--- `shared_arena_hashmap::grow::reenter` meets its contract. An empty bucket changes nothing; another is entered by its own words. Assumes nothing.
+-- `shared_arena_hashmap::grow::reenter` meets its contract. An empty bucket changes nothing; another is entered by its
+-- own words. Assumes nothing.
 use borrow.Author.Tests.{eq-eqb, ne-eqb}
 use borrow.Author.Needs.{needs}
 use Rattle.shared_arena_hashmap.specs.Grow.{reentered}

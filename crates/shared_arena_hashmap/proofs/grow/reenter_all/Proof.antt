@@ -1,4 +1,5 @@
--- `shared_arena_hashmap::grow::reenter_all` meets its contract. The invariant: all re-entered is the `left` buckets from `at` on re-entered. Assumes nothing.
+-- `shared_arena_hashmap::grow::reenter_all` meets its contract. The invariant: all re-entered is the `left` buckets
+-- from `at` on re-entered. Assumes nothing.
 use Prim.Native.Nat.{_+_, _-_, _*_, _≤_}
 use mathlib.Core.Path.{_≡_, refl, sym, ap, _∙_}
 use native.Mathlib.Omega.{arith}

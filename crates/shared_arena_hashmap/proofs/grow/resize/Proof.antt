@@ -1,4 +1,5 @@
--- `shared_arena_hashmap::grow::resize` meets its contract. The two calls are the two steps of the definition. Assumes nothing.
+-- `shared_arena_hashmap::grow::resize` meets its contract. The two calls are the two steps of the definition. Assumes
+-- nothing.
 use borrow.Author.Needs.{needs}
 use Rattle.shared_arena_hashmap.proofs.Laws.{grown-code}
 use Rattle.shared_arena_hashmap.proofs.grow.resize.Statement.{statement}
@@ -16,7 +17,8 @@ same-length c = search needs
 returns : tie.Need-returns
 returns c =
     let a = c .before .before .before .before .before .before .before .before .before .args in
-    grown-code (a .n) (a .old) (a .first) (a .l) (a .table .now) _ _ (c .before .before .before .before .before .before .clear .ensures)
+    grown-code (a .n) (a .old) (a .first) (a .l) (a .table .now) _ _
+    (c .before .before .before .before .before .before .clear .ensures)
     (c .before .before .reenter-all .ensures)
 
 pub resize-spec : {M : Type 1} → statement M

@@ -1,0 +1,3 @@
+-- `Whole`: what the whole-state check says. `Guard`: the guard of names.
+pub mod Whole
+pub mod Guard
