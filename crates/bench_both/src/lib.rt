@@ -1,4 +1,4 @@
-// The testbench's two stores and its flat store: the commands on whichever the lines talk to, and the join.
+// The testbench's two stores and its flat store: the commands on whichever the lines talk to.
 //
 // It promises that each command ends and stays inside the areas, whatever the line, the states and the memory are; what
 // the calls answer, the crates below promise. It uses text, say, bench_flat, bench_lent, and memory_arena, store_state
@@ -26,7 +26,7 @@ pub fn fresh() -> Both {
 }
 
 // What a line left of the first store, and of the second; the walk it told is both stores'.
-fn with_one(b: Both, one: Bench) -> Both {
+pub fn with_one(b: Both, one: Bench) -> Both {
     let two = bench_lent::with_walk(b.two, one.walk);
     let mut next = b;
     next.one = one;
@@ -43,7 +43,7 @@ fn with_two(b: Both, two: Bench) -> Both {
 }
 
 // `on STORE`: which store the lines behind it talk to.
-fn on(b: Both, line: &[u8]) -> Both {
+pub fn on(b: Both, line: &[u8]) -> Both {
     let n = words::number_at(line, 1);
     if n.fault != 0 {
         say::fault(n.fault);
@@ -57,35 +57,6 @@ fn on(b: Both, line: &[u8]) -> Both {
     let mut next = b;
     next.is_second = n.value == 2;
     next
-}
-
-// `join ROOM`: the second store is joined onto the first.
-fn join(
-    b: Both,
-    line: &[u8],
-    table: &mut [u32],
-    keys: &mut [u8],
-    lists: &mut [u8],
-    table2: &[u32],
-    keys2: &[u8],
-    lists2: &[u8],
-    output: &mut [u8],
-) -> Both {
-    let one = b.one;
-    let two = b.two;
-    let next = bench_lent::join(
-        one,
-        two,
-        line,
-        table,
-        keys,
-        lists,
-        table2,
-        keys2,
-        lists2,
-        output,
-    );
-    with_one(b, next)
 }
 
 // A command on the first store, and on the second.
@@ -120,7 +91,7 @@ fn play_two(
 }
 
 // A command on the store that is talked to.
-fn play_on(
+pub fn play_on(
     b: Both,
     k: u64,
     line: &[u8],
@@ -141,7 +112,7 @@ fn play_on(
 }
 
 // A command on the flat store.
-fn play_flat(
+pub fn play_flat(
     b: Both,
     k: u64,
     line: &[u8],
@@ -154,43 +125,4 @@ fn play_flat(
     let mut next = b;
     next.flat = after;
     next
-}
-
-// A command of any kind that is played on memory.
-pub fn play(
-    b: Both,
-    k: u64,
-    line: &[u8],
-    table: &mut [u32],
-    keys: &mut [u8],
-    lists: &mut [u8],
-    table2: &mut [u32],
-    keys2: &mut [u8],
-    lists2: &mut [u8],
-    name: &mut [u8],
-    output: &mut [u8],
-    flat: &mut [u8],
-) -> Both {
-    if k / 10 == 10 {
-        return play_flat(b, k, line, name, output, flat);
-    }
-    if k == 110 {
-        return on(b, line);
-    }
-    if k == 111 {
-        return join(b, line, table, keys, lists, table2, keys2, lists2, output);
-    }
-    play_on(
-        b,
-        k,
-        line,
-        table,
-        keys,
-        lists,
-        table2,
-        keys2,
-        lists2,
-        name,
-        output,
-    )
 }

@@ -1,4 +1,4 @@
-// One store of the testbench and the memory that is lent to it: its commands, and the join of a second one onto it.
+// One store of the testbench and the memory that is lent to it: its commands.
 //
 // It promises that each command ends and stays inside the areas, whatever the line, the state and the memory are; what
 // the calls answer, the crates below promise. It uses numbers, text, say, the libraries of the commands, and
@@ -60,7 +60,8 @@ fn lend(
     }
 }
 
-fn with_played(b: Bench, played: Played) -> Bench {
+// What a command left of a store.
+pub fn with_played(b: Bench, played: Played) -> Bench {
     let st = played.st;
     let mut next = b;
     next.st = st;
@@ -125,41 +126,4 @@ pub fn with_walk(b: Bench, walk: usize) -> Bench {
     let mut next = b;
     next.walk = walk;
     next
-}
-
-// `join ROOM`: the second store's lent areas are joined onto the first's.
-pub fn join(
-    one: Bench,
-    two: Bench,
-    line: &[u8],
-    table: &mut [u32],
-    keys: &mut [u8],
-    lists: &mut [u8],
-    table2: &[u32],
-    keys2: &[u8],
-    lists2: &[u8],
-    output: &mut [u8],
-) -> Bench {
-    let st = one.st;
-    let st2 = two.st;
-    let words = numbers::least(one.words, table.len());
-    let key_bytes = numbers::least(one.key_bytes, keys.len());
-    let list_bytes = numbers::least(one.list_bytes, lists.len());
-    let words2 = numbers::least(two.words, table2.len());
-    let key_bytes2 = numbers::least(two.key_bytes, keys2.len());
-    let list_bytes2 = numbers::least(two.list_bytes, lists2.len());
-    let next = bench_join::join(
-        line,
-        st,
-        &mut table[0..words],
-        &mut keys[0..key_bytes],
-        &mut lists[0..list_bytes],
-        st2,
-        &table2[0..words2],
-        &keys2[0..key_bytes2],
-        &lists2[0..list_bytes2],
-        output,
-    );
-    let walk = one.walk;
-    with_played(one, Played { st: next, walk })
 }

@@ -25,77 +25,6 @@ fn play_other(
     }
 }
 
-// A command on pieces. The numbers that it may give out have their places here, since none are kept between lines.
-fn play_pieces(
-    k: u64,
-    walk: usize,
-    st: State,
-    line: &[u8],
-    table: &[u32],
-    keys: &[u8],
-    lists: &[u8],
-    name: &mut [u8],
-    output: &mut [u8],
-) -> usize {
-    let mut numbers = [0u32; 16384];
-    pieces_into(
-        k,
-        walk,
-        st,
-        line,
-        table,
-        keys,
-        lists,
-        name,
-        output,
-        &mut numbers,
-    )
-}
-
-fn pieces_into(
-    k: u64,
-    walk: usize,
-    st: State,
-    line: &[u8],
-    table: &[u32],
-    keys: &[u8],
-    lists: &[u8],
-    name: &mut [u8],
-    output: &mut [u8],
-    numbers: &mut [u32; 16384],
-) -> usize {
-    bench_pieces::play(k, walk, st, line, table, keys, lists, name, output, numbers)
-}
-
-// A command on readings, with their places likewise.
-fn play_readings(
-    k: u64,
-    walk: usize,
-    st: State,
-    line: &[u8],
-    table: &mut [u32],
-    keys: &mut [u8],
-    lists: &mut [u8],
-    name: &mut [u8],
-) -> Played {
-    let mut places = [0i32; 16384];
-    readings_into(k, walk, st, line, table, keys, lists, name, &mut places)
-}
-
-fn readings_into(
-    k: u64,
-    walk: usize,
-    st: State,
-    line: &[u8],
-    table: &mut [u32],
-    keys: &mut [u8],
-    lists: &mut [u8],
-    name: &mut [u8],
-    places: &mut [i32; 16384],
-) -> Played {
-    bench_readings::play(k, walk, st, line, table, keys, lists, name, places)
-}
-
 // A command that leaves the state as it is: the walk that the last call by name told.
 fn play_same(
     k: u64,
@@ -112,7 +41,7 @@ fn play_same(
         return bench_read::play(k, walk, st, line, table, keys, lists, name, output);
     }
     if k / 10 == 8 {
-        return play_pieces(k, walk, st, line, table, keys, lists, name, output);
+        return bench_pieces::play(k, walk, st, line, table, keys, lists, name, output);
     }
     play_other(k, st, line, table, keys, lists, name, output);
     walk
@@ -138,7 +67,7 @@ pub fn play(
         return Played { st: set, walk };
     }
     if k / 10 == 7 {
-        return play_readings(k, walk, st, line, table, keys, lists, name);
+        return bench_readings::play(k, walk, st, line, table, keys, lists, name);
     }
     let told = play_same(k, walk, st, line, table, keys, lists, name, output);
     Played { st, walk: told }

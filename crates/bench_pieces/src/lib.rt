@@ -8,6 +8,28 @@ mod lane; // lane.rt: piece, a lane's bytes behind a count
 
 use store_state::State;
 
+// A command, with places for the numbers that it may give out: none are kept between lines.
+fn play_into(
+    k: u64,
+    walk: usize,
+    st: State,
+    line: &[u8],
+    table: &[u32],
+    keys: &[u8],
+    lists: &[u8],
+    name: &mut [u8],
+    output: &mut [u8],
+    numbers: &mut [u32; 16384],
+) -> usize {
+    match k {
+        80 => lane::piece(walk, st, line, table, keys, lists, name, output),
+        _ => {
+            feed::feed(line, name, numbers);
+            walk
+        }
+    }
+}
+
 // The command of a number: the walk that the last call by name told.
 pub fn play(
     k: u64,
@@ -19,13 +41,18 @@ pub fn play(
     lists: &[u8],
     name: &mut [u8],
     output: &mut [u8],
-    numbers: &mut [u32],
 ) -> usize {
-    match k {
-        80 => lane::piece(walk, st, line, table, keys, lists, name, output),
-        _ => {
-            feed::feed(line, name, numbers);
-            walk
-        }
-    }
+    let mut numbers = [0u32; 16384];
+    play_into(
+        k,
+        walk,
+        st,
+        line,
+        table,
+        keys,
+        lists,
+        name,
+        output,
+        &mut numbers,
+    )
 }

@@ -220,6 +220,25 @@ fn recall(
     recall_into(st, table, keys, lists, &name[0..n], &mut places[0..m])
 }
 
+// A command, with places for the readings that it may give out: none are kept between lines.
+fn play_into(
+    k: u64,
+    walk: usize,
+    st: State,
+    line: &[u8],
+    table: &mut [u32],
+    keys: &mut [u8],
+    lists: &mut [u8],
+    name: &mut [u8],
+    places: &mut [i32; 16384],
+) -> Played {
+    if k == 70 {
+        return drift(walk, st, line, table, keys, lists, name);
+    }
+    let told = recall(walk, st, line, table, keys, lists, name, places);
+    Played { st, walk: told }
+}
+
 // The command of a number: what it leaves.
 pub fn play(
     k: u64,
@@ -230,11 +249,7 @@ pub fn play(
     keys: &mut [u8],
     lists: &mut [u8],
     name: &mut [u8],
-    places: &mut [i32],
 ) -> Played {
-    if k == 70 {
-        return drift(walk, st, line, table, keys, lists, name);
-    }
-    let told = recall(walk, st, line, table, keys, lists, name, places);
-    Played { st, walk: told }
+    let mut places = [0i32; 16384];
+    play_into(k, walk, st, line, table, keys, lists, name, &mut places)
 }

@@ -1,7 +1,85 @@
 // The lines, played on the lent areas of two stores and on the flat store's buffer.
 use crate::commands;
 use bench_both::Both;
+use bench_state::Played;
 use script::lines;
+
+// `join ROOM`: the second store's lent areas are joined onto the first's.
+fn join(
+    b: Both,
+    line: &[u8],
+    table: &mut [u32],
+    keys: &mut [u8],
+    lists: &mut [u8],
+    table2: &[u32],
+    keys2: &[u8],
+    lists2: &[u8],
+    output: &mut [u8],
+) -> Both {
+    let one = b.one;
+    let two = b.two;
+    let st = one.st;
+    let st2 = two.st;
+    let words = numbers::least(one.words, table.len());
+    let key_bytes = numbers::least(one.key_bytes, keys.len());
+    let list_bytes = numbers::least(one.list_bytes, lists.len());
+    let words2 = numbers::least(two.words, table2.len());
+    let key_bytes2 = numbers::least(two.key_bytes, keys2.len());
+    let list_bytes2 = numbers::least(two.list_bytes, lists2.len());
+    let next = bench_join::join(
+        line,
+        st,
+        &mut table[0..words],
+        &mut keys[0..key_bytes],
+        &mut lists[0..list_bytes],
+        st2,
+        &table2[0..words2],
+        &keys2[0..key_bytes2],
+        &lists2[0..list_bytes2],
+        output,
+    );
+    let walk = one.walk;
+    bench_both::with_one(b, bench_lent::with_played(one, Played { st: next, walk }))
+}
+
+// A command that is played on memory.
+fn play_on_memory(
+    b: Both,
+    k: u64,
+    line: &[u8],
+    table: &mut [u32],
+    keys: &mut [u8],
+    lists: &mut [u8],
+    table2: &mut [u32],
+    keys2: &mut [u8],
+    lists2: &mut [u8],
+    name: &mut [u8],
+    output: &mut [u8],
+    flat: &mut [u8],
+) -> Both {
+    if k / 10 == 10 {
+        return bench_both::play_flat(b, k, line, name, output, flat);
+    }
+    if k == 110 {
+        return bench_both::on(b, line);
+    }
+    if k == 111 {
+        return join(b, line, table, keys, lists, table2, keys2, lists2, output);
+    }
+    bench_both::play_on(
+        b,
+        k,
+        line,
+        table,
+        keys,
+        lists,
+        table2,
+        keys2,
+        lists2,
+        name,
+        output,
+    )
+}
 
 // A line of any kind.
 fn play_line(
@@ -27,7 +105,7 @@ fn play_line(
         commands::help();
         return b;
     }
-    bench_both::play(
+    play_on_memory(
         b,
         k,
         line,
