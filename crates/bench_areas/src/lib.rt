@@ -2,6 +2,8 @@
 //
 // It promises that each call ends and stays inside what is lent, whatever the line, the state and the memory are. It
 // uses spans, fastcpy, murmurhash2, memory_arena and store_state (for the state), text, say and bench_state.
+#![tactic(auto)]
+
 ghost use Rattle.std.specs.Prelude.{◌*◌, ◌≤◌, length};
 
 use store_state::State;
@@ -19,7 +21,7 @@ fn fill_words(area: &mut [u32], b: u8) {
 }
 
 // How much of the three areas is lent, or why nothing.
-#[derive(Drop)]
+#[derive(Clone, Copy)]
 pub struct Parts {
     pub words: usize,
     pub key_bytes: usize,
@@ -149,7 +151,7 @@ fn poke(line: &[u8], table: &mut [u32], keys: &mut [u8], lists: &mut [u8], scrat
 }
 
 // What two words of a line, place and count, ask for of an area: from a place, up to another, or why nothing.
-#[derive(Drop)]
+#[derive(Clone, Copy)]
 struct Range {
     from: usize,
     to: usize,

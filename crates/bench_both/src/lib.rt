@@ -3,12 +3,14 @@
 // It promises that each command ends and stays inside the areas, whatever the line, the states and the memory are; what
 // the calls answer, the crates below promise. It uses text, say, bench_flat, bench_lent, and memory_arena, store_state
 // and bench_state for the states.
+#![tactic(auto)]
+
 use bench_flat::Flat;
 use bench_lent::Bench;
 use text::words;
 
 // The two stores, whether the lines talk to the second, and the flat store's buffer and used count.
-#[derive(Drop)]
+#[derive(Clone, Copy)]
 pub struct Both {
     pub one: Bench,
     pub two: Bench,

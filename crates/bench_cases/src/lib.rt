@@ -4,3 +4,4 @@
 // It promises that the definitions which the contracts cite give the paper's values; it has no function. It uses
 // limits, murmurhash2, vint, memory_arena, shared_arena_hashmap, expull_header, expull_append, store_state,
 // store_create, store_look and store_append.
+#![tactic(auto)]

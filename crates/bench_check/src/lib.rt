@@ -4,6 +4,8 @@
 // area holds then. It promises that it ends and stays inside what is lent, whatever the line, the state and the memory
 // are; what the call answers, brownout promises. It uses memory_arena (the state's type), store_state, brownout_faults,
 // brownout, text and say.
+#![tactic(auto)]
+
 use brownout_faults::Checked;
 use store_state::State;
 use text::{fault, words};

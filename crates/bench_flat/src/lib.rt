@@ -4,11 +4,13 @@
 // Each reads its words, makes at most one call and says what it answered. It promises that it ends and stays inside
 // what is lent, whatever the line, the used count and the buffer are; what the call answers, flat_store promises. It
 // uses numbers, murmurhash2, flat_store, text, say and bench_areas.
+#![tactic(auto)]
+
 use flat_store::{Answer, Appended, Lookup};
 use text::{fault, words};
 
 // How much of the memory is the lent buffer, and how much of that is used.
-#[derive(Drop)]
+#[derive(Clone, Copy)]
 pub struct Flat {
     pub lent: usize,
     pub used: usize,

@@ -3,6 +3,8 @@
 // It reads its word, makes one call and says what it answered. It promises that it ends and stays inside what is lent,
 // whatever the line, the states and the memory are; what the call answers, join promises. It uses memory_arena (the
 // state's type), murmurhash2, store_state, join, text and say.
+#![tactic(auto)]
+
 use join::Joined;
 use store_state::State;
 use text::{fault, words};

@@ -3,13 +3,15 @@
 // It promises that each command ends and stays inside the areas, whatever the line, the state and the memory are; what
 // the calls answer, the crates below promise. It uses numbers, text, say, the libraries of the commands, and
 // memory_arena and store_state for the state.
+#![tactic(auto)]
+
 use bench_state::Played;
 use store_state::State;
 use text::fault;
 
 // What the testbench remembers of a store between lines: its state, the walk that the last call by name told, which is
 // one for both stores, and how much of each area is lent.
-#[derive(Drop)]
+#[derive(Clone, Copy)]
 pub struct Bench {
     pub st: State,
     pub walk: usize,

@@ -4,6 +4,8 @@
 // Each reads its words, makes one call and says what it answered. It promises that it ends and stays inside what is
 // lent, whatever the line and the memory are; what the calls answer, the crates below promise. It uses limits, fastcmp,
 // fastcpy, murmurhash2, vint, memory_arena, text and say.
+#![tactic(auto)]
+
 ghost use Rattle.std.specs.Prelude.{◌≤◌, length};
 
 use fastcpy::Copied;

@@ -3,6 +3,8 @@
 // It promises that each command ends and stays inside what is lent, whatever the line, the state and the memory are;
 // what the calls answer, the crates below promise. It uses the libraries of the commands, and memory_arena and
 // store_state for the state.
+#![tactic(auto)]
+
 use bench_state::Played;
 use store_state::State;
 

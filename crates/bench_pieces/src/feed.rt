@@ -6,7 +6,7 @@ use text::{fault, words};
 const KEPT: u32 = 4008636142;
 
 // A state from a line's words, or why there is none.
-#[derive(Drop)]
+#[derive(Clone, Copy)]
 struct Handed {
     st: Pieces,
     fault: u32,

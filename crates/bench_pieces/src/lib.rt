@@ -3,6 +3,8 @@
 // Each reads its words, makes one call and says what it answered. It promises that it ends and stays inside what is
 // lent, whatever the line, the state and the memory are; what the calls answer, lane_pieces and number_pieces promise.
 // It uses numbers, memory_arena (the state's type), store_state, lane_pieces, number_pieces, text and say.
+#![tactic(auto)]
+
 mod feed; // feed.rt: numbers out of a lane that comes in pieces
 mod lane; // lane.rt: piece, a lane's bytes behind a count
 

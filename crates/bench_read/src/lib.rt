@@ -4,6 +4,8 @@
 // its own, or the one before where it makes none. It promises that it ends and stays inside what is lent, whatever the
 // line, the state and the memory are; what the call answers, store promises. It uses memory_arena (the state's type),
 // store_state, store_look, text and say.
+#![tactic(auto)]
+
 ghost use Rattle.std.specs.Prelude.{◌≤◌, length};
 
 use store_look::{Answer, Counted, Listed, Lookup, Outcome};

@@ -3,6 +3,8 @@
 // Each reads its words, makes one call and says what it answered. It promises that it ends and stays inside what is
 // lent, whatever the line, the state and the memory are; what the call answers, readings promises. It uses numbers,
 // memory_arena, store_state and store_append (for the state), signed, readings, text, say, bench_state and bench_write.
+#![tactic(auto)]
+
 use bench_state::Played;
 use readings::Recalled;
 use store_state::State;

@@ -3,6 +3,8 @@
 // Each reads its words, makes one call and says what it answered. It promises that it ends and stays inside what is
 // lent, whatever the line, the state and the memory are; what the call answers, report and report_read promise. It uses
 // numbers, memory_arena (the state's type), store_state, report, report_read, text and say.
+#![tactic(auto)]
+
 use report::Reported;
 use report_read::check::Checked;
 use report_read::pick::Picked;

@@ -2,6 +2,8 @@
 //
 // It promises that each call ends and stays inside what is lent, whatever the line and the state are. It uses spans,
 // murmurhash2, memory_arena and store_state (for the state), text and say.
+#![tactic(auto)]
+
 ghost use Rattle.std.specs.Prelude.{◌+◌, ◌≤◌, length};
 
 use memory_arena::Arena;
@@ -9,7 +11,7 @@ use store_state::State;
 use text::{fault, words};
 
 // What a command leaves: the store's state, and how many buckets the last call by name said that it looked at.
-#[derive(Drop)]
+#[derive(Clone, Copy)]
 pub struct Played {
     pub st: State,
     pub walk: usize,

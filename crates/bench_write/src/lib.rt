@@ -3,6 +3,8 @@
 // Each reads its words, makes one call, says what it answered and gives back the state. It promises that it ends and
 // stays inside what is lent, whatever the line, the state and the memory are; what the call answers, store promises. It
 // uses limits, memory_arena, store_state, store_create and store_append (for the state), text, say and bench_state.
+#![tactic(auto)]
+
 use bench_state::Played;
 use store_append::{Appended, ToldAppend};
 use store_create::Created;

@@ -6,6 +6,8 @@
 // buckets and for an overlap with everything met earlier, the code makes one lookup a bucket and sets a bit for each
 // byte met; specs/Code.antt says so, and proofs/ that both are one. A chain is walked by its count, so one that comes
 // back to itself ends too. It uses brownout_faults, marks and the store's inner calls.
+#![tactic(auto)]
+
 ghost use Rattle.std.specs.Prelude.{◌≡◌, true, ◌+◌, ◌*◌, ◌^◌, ◌≤◌, ◌<◌, length};
 ghost use Rattle.limits.specs.Limits.{number_limit};
 ghost use Rattle.limits.specs.Refusals.{checking, permitted};

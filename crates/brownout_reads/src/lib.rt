@@ -3,3 +3,4 @@
 //
 // No code: specs/Promises.antt has the statement, and proofs/ its value, from what sound promises of a reading. It uses
 // brownout_faults, lane_pieces and readings.
+#![tactic(auto)]

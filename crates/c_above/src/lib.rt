@@ -4,6 +4,8 @@
 //
 // It promises what specs/Above.antt says, over those crates' own definitions, for any numbers and any areas; a short or
 // senseless area is 2. It uses c_told, state_area, and brownout, report and readings.
+#![tactic(auto)]
+
 ghost use Rattle.std.specs.Prelude.{◌≡◌};
 ghost use Rattle.store_look.specs.Look.{lent};
 ghost use Rattle.c_above.specs.Above.{checked_told, check_in, reported_told, report_in, drift_in};

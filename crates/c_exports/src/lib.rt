@@ -5,6 +5,8 @@
 // specs/Calls.antt says over the store's own definitions; a short or senseless area is 2; a refusal changes no lent
 // byte or word but the three in which an answer is told. It uses state_area, store_state, store_create, store_look,
 // store_append, store_quick, store and the crates above the store whose calls it passes on.
+#![tactic(auto)]
+
 pub mod above;
 pub mod joined;
 

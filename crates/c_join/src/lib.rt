@@ -4,6 +4,8 @@
 // join gives, whole or stopped, is in the first store's area, so that lanes which went across stay when it stops; how
 // many did is told; a short or senseless area of either store is 2. specs/Joined.antt is that. It uses c_told,
 // state_area and join.
+#![tactic(auto)]
+
 ghost use Rattle.std.specs.Prelude.{◌≡◌, ◌≤◌, length};
 ghost use Rattle.store_look.specs.Look.{lent};
 ghost use Rattle.state_area.specs.Area.{area_size};

@@ -3,6 +3,8 @@
 //
 // It promises what specs/Told.antt says of each answer of the store: its code, the words that are told, the state area.
 // An area of fewer than three words is left as it was. It uses state_area and the store's types.
+#![tactic(auto)]
+
 ghost use Rattle.std.specs.Prelude.{◌≡◌, ◌≤◌, length};
 ghost use Rattle.state_area.specs.Area.{area_size};
 ghost use Rattle.c_told.specs.Told.{says, number_in, answer_told, lookup_told, listed_told};

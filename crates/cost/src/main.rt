@@ -2,6 +2,8 @@
 // line. For each it prints `capacity C words W key-bytes K list-bytes L`, `too much` or `no such page` (document 02,
 // Fourteen). It promises only that it ends and stays in bounds; what it says is proved of `lending::lend_for`, and that
 // it is enough, in shift_cost. It uses lending, text, say and script, and the kit's io.
+#![tactic(auto)]
+
 use lending::Lend;
 use script::lines;
 use text::{fault, words};

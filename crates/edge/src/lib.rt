@@ -5,6 +5,8 @@
 // of 64-bit words as specs/Told.antt says. The state goes in as numbers and comes out as words. It serves that run
 // alone and is no interface for a controller. It uses spans, memory_arena, store_state, store_create, store_look and
 // store_append.
+#![tactic(auto)]
+
 ghost use Rattle.std.specs.Prelude.{◌≡◌, cond, [], ◌∷◌, ◌≤◌, length};
 ghost use Rattle.spans.specs.Span.{overwrite};
 ghost use Rattle.memory_arena.specs.Calls.{allocate_of, out, read_of, write_of};

@@ -6,6 +6,8 @@
 // come to for a name, which the histories of both stores use. Its two functions ask that the place, and what is
 // written, lies in the run: the layers above have shown that before they call. It uses limits, numbers, spans, fastcmp
 // (names, in definitions) and fastcpy.
+#![tactic(auto)]
+
 ghost use Rattle.std.specs.Prelude.{◌≡◌, ◌+◌, ◌≤◌, length};
 ghost use Rattle.spans.specs.Span.{overwrite};
 ghost use Rattle.entries.specs.Log.{entry};
@@ -16,7 +18,7 @@ pub const BYTE_LIMIT: usize = 4294967295;
 
 // The entry at a place of a run: where its name ends, where its bytes start and where they end; or no whole entry is
 // there.
-#[derive(Drop)]
+#[derive(Clone, Copy)]
 pub enum Next {
     Whole(usize, usize, usize),
     NoEntry,

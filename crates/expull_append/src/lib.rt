@@ -3,6 +3,8 @@
 // It promises, on any memory: an append writes what document 01 says, byte for byte, once the dry run has shown that
 // its blocks fit; no byte outside a good span is written. Its functions are inner ones: the store has made the
 // whole-state check before it calls. It uses limits, numbers, spans, fastcpy, memory_arena and expull_header.
+#![tactic(auto)]
+
 ghost use Rattle.std.specs.Prelude.{◌≡◌, true, ◌+◌, ◌-◌, ◌*◌, ◌≤◌, ◌<◌, length};
 ghost use Rattle.std.proofs.Math.Option.{some};
 ghost use Rattle.limits.specs.Limits.{page_taken, arena_limit, fresh_number, number_limit, link_size};
@@ -15,7 +17,7 @@ use expull_header::Header;
 use memory_arena::{Allocated, Arena};
 
 // A list's header and its arena's state after an append.
-#[derive(Drop)]
+#[derive(Clone, Copy)]
 pub struct Extended {
     pub header: Header,
     pub arena: Arena,

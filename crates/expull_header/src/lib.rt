@@ -3,13 +3,15 @@
 //
 // It promises, for any bytes, exactly what specs/ says. Its functions are inner ones: whoever calls has room for 16
 // bytes, and asks a length only of a header that is no damage. It uses limits, numbers and spans.
+#![tactic(auto)]
+
 ghost use Rattle.std.specs.Prelude.{◌≡◌, true, ◌+◌, ◌≤◌, ◌<◌, ◌^◌, length};
 ghost use Rattle.spans.specs.Span.{overwrite};
 ghost use Rattle.expull_header.specs.Header.{block_size, fresh, header_bytes, header_at, end_bytes_at, sound_header};
 ghost use Rattle.expull_header.specs.Header.{lane_length};
 
 // A list's header: its block number, first block, next byte to write, and the bytes that remain in the last block.
-#[derive(Drop)]
+#[derive(Clone, Copy)]
 pub struct Header {
     pub number: u32,
     pub head: u32,

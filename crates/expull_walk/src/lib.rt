@@ -3,6 +3,8 @@
 // It promises, on any memory: a reading walks exactly the header's count of blocks, so a chain that bites its own tail
 // ends too; no byte outside a good span is read. Its functions are inner ones: the store has made the whole-state check
 // before it calls. It uses limits, numbers, spans, fastcpy, memory_arena and expull_header.
+#![tactic(auto)]
+
 ghost use Rattle.std.specs.Prelude.{◌≡◌, true, ◌≤◌, ◌<◌, length};
 ghost use Rattle.limits.specs.Limits.{number_limit};
 ghost use Rattle.spans.specs.Span.{overwrite};
@@ -14,7 +16,7 @@ use expull_header::Header;
 use memory_arena::Arena;
 
 // A block's place and length; past the last; or one on the way that isn't a good span.
-#[derive(Drop)]
+#[derive(Clone, Copy)]
 pub enum Block {
     BlockAt(u32, u32),
     NoBlock,
@@ -22,7 +24,7 @@ pub enum Block {
 }
 
 // Where a walk along the blocks has come to, or that it met one that isn't a good span.
-#[derive(Drop)]
+#[derive(Clone, Copy)]
 pub enum Walked {
     To(u32),
     Stopped,

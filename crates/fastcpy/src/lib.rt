@@ -5,12 +5,14 @@
 // panic there, are refusal 9, and nothing is written. `copy_in`, which writes to a place of a memory, asks that there
 // is room: the layers above have shown that before they call. The AVX branch is not carried over. It uses limits (what
 // an answer says), numbers and spans.
+#![tactic(auto)]
+
 ghost use Rattle.std.specs.Prelude.{true, ◌≡◌, ◌+◌, ◌≤◌, ◌<◌, length};
 ghost use Rattle.limits.specs.Refusals.{copying, permitted};
 ghost use Rattle.spans.specs.Span.{overwrite};
 ghost use Rattle.fastcpy.specs.Copy.{out, copy_of, said_copied};
 
-#[derive(Drop)]
+#[derive(Clone, Copy)]
 pub enum Copied {
     Done,
     Refused(u32),

@@ -6,3 +6,4 @@
 // made on any lent memory and every lent buffer, from demand 3 of both. It assumes nothing. It uses limits, entries,
 // memory_arena, expull_header and expull_append (rooms that an append may lack), shared_arena_hashmap (for the case),
 // store_state, store_create, store_look, store_append, history and flat_store.
+#![tactic(auto)]

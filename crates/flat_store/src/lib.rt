@@ -5,19 +5,20 @@
 // refuses by a number, exactly as specs/Calls.antt says; a refusal changes no lent byte. specs/Promises.antt has what
 // any history of appends comes to. It uses limits, numbers (its laws of tests), spans (parts of memory, in
 // definitions), fastcmp (laws of names), entries and flat_walk.
+#![tactic(auto)]
 
 pub mod look;
 pub mod write;
 
 // An append's answer: the used count then, or a refusal's number, and nothing has changed.
-#[derive(Drop)]
+#[derive(Clone, Copy)]
 pub enum Appended {
     Accepted(usize),
     Declined(u32),
 }
 
 // A lookup's answer.
-#[derive(Drop)]
+#[derive(Clone, Copy)]
 pub enum Lookup {
     Standing,
     Missing,
@@ -25,7 +26,7 @@ pub enum Lookup {
 }
 
 // A length's or a reading's answer. TooShort is refusal 8, with the length; any other tells its number alone.
-#[derive(Drop)]
+#[derive(Clone, Copy)]
 pub enum Answer {
     Absent,
     Length(u64),
@@ -35,7 +36,7 @@ pub enum Answer {
 }
 
 // What the used entries have of a name: so many bytes, nothing, or a refusal's number.
-#[derive(Drop)]
+#[derive(Clone, Copy)]
 pub enum Found {
     Bytes(u64),
     Nothing,

@@ -4,6 +4,8 @@
 // also what stands behind a match; and of an output with room that just their bytes come to its front, in order.
 // specs/Walk.antt says it entry by entry, and proofs/Joined.antt that it comes to what the log comes to. It uses spans
 // (parts of memory, in definitions), fastcmp, fastcpy and entries.
+#![tactic(auto)]
+
 ghost use Rattle.std.specs.Prelude.{◌≡◌, false, ◌+◌, ◌-◌, ◌≤◌, length};
 ghost use Rattle.spans.specs.Span.{read_span};
 ghost use Rattle.entries.specs.Form.{entries_of};
@@ -12,14 +14,14 @@ ghost use Rattle.flat_walk.specs.Walk.{tally, tally_on, walked, place_on, output
 use entries::Next;
 
 // What was met of a name so far: whether an entry, and how many bytes.
-#[derive(Drop)]
+#[derive(Clone, Copy)]
 pub struct Tally {
     pub stood: bool,
     pub count: usize,
 }
 
 // All entries gone through, or one that overruns the run.
-#[derive(Drop)]
+#[derive(Clone, Copy)]
 pub enum Walked {
     Through(Tally),
     Broken,

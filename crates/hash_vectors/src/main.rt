@@ -2,10 +2,12 @@
 // line; the key's byte i is (A + B * i + C * (i / 256)) mod 256. It prints each row whose hash differs, then how many
 // rows it read and how many differed. docs/VECTORS.md says where the rows come from. It promises only that it ends and
 // stays in bounds. It uses numbers, murmurhash2, text, say and script, and the kit's io.
+#![tactic(auto)]
+
 use script::lines;
 use text::{fault, words};
 
-#[derive(Drop)]
+#[derive(Clone, Copy)]
 struct Row {
     seed: u64,
     length: u64,
@@ -75,7 +77,7 @@ fn differs(line: &[u8], key: &mut [u8]) -> bool {
     true
 }
 
-#[derive(Drop)]
+#[derive(Clone, Copy)]
 struct Tally {
     rows: u64,
     wrong: u64,

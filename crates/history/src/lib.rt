@@ -11,3 +11,4 @@
 // It uses limits, numbers, spans, fastcmp, murmurhash2, memory_arena, records, shared_arena_hashmap, expull_header,
 // expull_walk, expull_append, store_state, store_create, store_look, store_append, store, history_lanes and
 // history_names.
+#![tactic(auto)]

@@ -4,3 +4,4 @@
 // It has no function. `specs/Lane.antt` says what a lane is, beside the addresses of its blocks, and what an append
 // leaves; the theorems are in proofs/, over the definitions of the list's crates. It uses `limits`, `numbers`, `spans`,
 // `memory_arena`, `expull_header`, `expull_walk` and `expull_append`, and assumes nothing.
+#![tactic(auto)]

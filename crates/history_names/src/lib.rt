@@ -5,3 +5,4 @@
 // leave; `specs/Listing.antt` what a listing collects; `proofs/` has the theorems, over the definitions that
 // shared_arena_hashmap's contracts cite. The hash is any function of the name: names with equal hashes are told apart
 // by their key bytes. It uses limits, numbers, spans, fastcmp, memory_arena and records, shared_arena_hashmap.
+#![tactic(auto)]

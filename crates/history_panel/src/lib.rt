@@ -2,3 +2,4 @@
 //
 // No code: specs/Panel.antt has the statement, and proofs/ its value, from what was accepted for the lane and what the
 // number reader makes of bytes cut anywhere. It uses history_readings, history_pieces and number_pieces.
+#![tactic(auto)]

@@ -2,3 +2,4 @@
 //
 // No code: specs/Promises.antt has the statements, and proofs/ their values, from demand 3 and what a piece is. It uses
 // history and lane_pieces.
+#![tactic(auto)]

@@ -2,3 +2,4 @@
 //
 // No code: specs/Promises.antt has the statement, and proofs/ its value, from demand 3 (no block moves) and what a
 // piece from a place of the lane's own is. It uses history, history_pieces and lane_places.
+#![tactic(auto)]

@@ -3,3 +3,4 @@
 //
 // No code: specs/Walks.antt has the statements, and proofs/ their values, from the definition of a lookup and from
 // demand 3's invariant. It uses murmurhash2, memory_arena, shared_arena_hashmap, store_state, store_look and history.
+#![tactic(auto)]

@@ -5,6 +5,8 @@
 // many went across whole. specs/Join.antt is that: one equation for the state, the first store's memory and the
 // scratch. The second store's memory is lent to be read only. It uses store_state, store_create, store_look,
 // store_append, report_lanes, and history for the words of its definition.
+#![tactic(auto)]
+
 ghost use Rattle.std.specs.Prelude.{◌≡◌, true, length};
 ghost use Rattle.limits.specs.Refusals.{joining, permitted};
 ghost use Rattle.store_look.specs.Look.{lent, checked};
@@ -19,7 +21,7 @@ use store_append::Appended;
 use store_state::State;
 
 // The first store's state, and how many lanes went across: all of them, or up to a refusal's number.
-#[derive(Drop)]
+#[derive(Clone, Copy)]
 pub enum Joined {
     Whole(State, usize),
     Halted(State, u32, usize),

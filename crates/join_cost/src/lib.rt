@@ -6,3 +6,4 @@
 // on each. It assumes nothing.
 //
 // It uses join_history, shift_cost, join, history, and the crates of their definitions.
+#![tactic(auto)]

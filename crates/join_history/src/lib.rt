@@ -6,3 +6,4 @@
 //
 // It uses join, history, report_history (the lanes of a report are those that a join meets), and the crates of their
 // definitions.
+#![tactic(auto)]

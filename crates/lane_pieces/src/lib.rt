@@ -6,6 +6,8 @@
 // output's front and no byte behind them. specs/Piece.antt is that. Only the blocks up to the last that it gives bytes
 // of are met, and all of these before a byte is written. It uses store_state, store_create, store_look, store_append,
 // expull_header, expull_walk, memory_arena, fastcpy and spans.
+#![tactic(auto)]
+
 ghost use Rattle.std.specs.Prelude.{◌≡◌, true, ◌+◌, ◌-◌, ◌≤◌, ◌<◌, min, length};
 ghost use Rattle.limits.specs.Limits.{number_limit};
 ghost use Rattle.limits.specs.Refusals.{reading_piece, permitted};
@@ -26,7 +28,7 @@ use store_look::Lookup;
 use store_state::State;
 
 // A piece's answer: absent; how many bytes it gave; or a refusal's number and what it tells.
-#[derive(Drop)]
+#[derive(Clone, Copy)]
 pub enum Pieced {
     Absent,
     Given(u64),
@@ -34,7 +36,7 @@ pub enum Pieced {
 }
 
 // A piece's answer, and how many buckets its lookup looked at, as the store tells it.
-#[derive(Drop)]
+#[derive(Clone, Copy)]
 pub struct ToldPiece {
     pub answer: Pieced,
     pub walk: usize,

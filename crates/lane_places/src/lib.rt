@@ -4,6 +4,8 @@
 // numbers; a place in whose block the bytes given so far can't end is 2. Where the place is the lane's own, it gives
 // what a piece by its count gives, and hands back the lane's own again (specs/Promises.antt). It uses lane_pieces,
 // store_state, store_create, store_look, store_append, expull_header, expull_walk and memory_arena.
+#![tactic(auto)]
+
 ghost use Rattle.std.specs.Prelude.{◌≡◌, true, ◌+◌, ◌≤◌, length};
 ghost use Rattle.limits.specs.Refusals.{reading_piece, permitted};
 ghost use Rattle.memory_arena.specs.Calls.{sensible};
@@ -24,7 +26,7 @@ use store_state::State;
 
 // Where the bytes given so far end: the index of their last block, the place where that block lies, and their count. Of
 // the first block the place doesn't matter: the lane's header has it.
-#[derive(Drop)]
+#[derive(Clone, Copy)]
 pub struct Place {
     pub index: u32,
     pub block: u32,
@@ -32,14 +34,14 @@ pub struct Place {
 }
 
 // A piece's answer, and the place to go on from: the old one, where no byte was given.
-#[derive(Drop)]
+#[derive(Clone, Copy)]
 pub struct Onward {
     pub answer: Pieced,
     pub place: Place,
 }
 
 // Both, and how many buckets the lookup looked at, as the store tells it.
-#[derive(Drop)]
+#[derive(Clone, Copy)]
 pub struct ToldOnward {
     pub onward: Onward,
     pub walk: usize,

@@ -4,12 +4,14 @@
 // It promises the numbers of specs/Lending.antt, for any input; shift_cost proves that a store which was created with
 // them never refuses a shift that stays within it. It uses limits, numbers, memory_arena for page sizes, and
 // shared_arena_hashmap for powers of two.
+#![tactic(auto)]
+
 ghost use Rattle.std.specs.Prelude.{◌≡◌, ◌+◌, ◌-◌, ◌*◌, ◌≤◌, ◌<◌, min, max};
 ghost use Rattle.limits.specs.Limits.{name_limit_for};
 ghost use Rattle.lending.specs.Lending.{with_tails, taken_at_most, key_bytes_for, list_bytes_for, capacity_for, lend_for};
 
 // A capacity to create with, words of the table, bytes of the key pages and of the list pages; or why none are told.
-#[derive(Drop)]
+#[derive(Clone, Copy)]
 pub enum Lend {
     Areas(u64, u64, u64, u64),
     TooMuch,

@@ -3,6 +3,7 @@
 // It promises nothing by itself: it has no function. `specs/Limits.antt` has the same numbers for the definitions, with
 // the laws that tie them together, and every contract above is stated over those; a constant that disagreed would fail
 // the first proof that meets it. `specs/Refusals.antt` says what an answer is in the paper's terms. It uses nothing.
+#![tactic(auto)]
 
 // A page's bytes: powers of two from the smallest to the crate's, which is the largest.
 pub const SMALLEST_PAGE: usize = 65536;

@@ -3,6 +3,8 @@
 // It promises that marking a span tells whether one of its places was marked already, and else marks them and nothing
 // more (specs/Bits.antt). `mark_span` asks that its places lie in the area: it is an inner function of the brownout
 // check, which has tested the area's length. It uses nothing but laws of numbers.
+#![tactic(auto)]
+
 ghost use Rattle.std.specs.Prelude.{◌≡◌, ◌+◌, ◌*◌, ◌^◌, ◌≤◌, ◌<◌, length, replicate};
 ghost use Rattle.marks.specs.Bits.{out, mark_one, mark_span, Strode};
 
@@ -40,7 +42,7 @@ pub fn mark(marks: &mut [u8], k: usize) -> bool
 }
 
 // What a stride did: whether its place was marked already, and else how many it marked.
-#[derive(Drop)]
+#[derive(Clone, Copy)]
 struct Stride {
     met: bool,
     done: usize,

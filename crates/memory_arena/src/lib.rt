@@ -5,6 +5,8 @@
 // specs/Pages.antt have the rules for every page size, proofs/Laws.antt what follows from them. The pages of a lent
 // slice lie one behind the other, so an address is a place in the slice, and only the test for good spans needs its
 // page. It uses limits, numbers, spans and fastcpy.
+#![tactic(auto)]
+
 ghost use Rattle.std.specs.Prelude.{◌≡◌, true, ◌+◌, ◌*◌, ◌≤◌, ◌<◌, ◌%◌, ◌^◌};
 ghost use Rattle.limits.specs.Limits.{page_taken};
 ghost use Rattle.limits.specs.Refusals.{allocating, touching, permitted};
@@ -15,7 +17,7 @@ ghost use Rattle.memory_arena.specs.Calls.{sensible, reachable, allocate_of, sai
 ghost use Rattle.memory_arena.specs.Calls.{slice_of, out, said_touched};
 
 // An arena's state beside its lent pages: the current page, the bytes used there, and a page's bytes.
-#[derive(Drop)]
+#[derive(Clone, Copy)]
 pub struct Arena {
     pub page: usize,
     pub used: usize,
@@ -23,7 +25,7 @@ pub struct Arena {
 }
 
 // What an allocation answers: an address and the state after it; no page has room; or a refusal.
-#[derive(Drop)]
+#[derive(Clone, Copy)]
 pub enum Allocated {
     At(u32, Arena),
     NoRoom,
@@ -31,7 +33,7 @@ pub enum Allocated {
 }
 
 // What a bare read or write answers.
-#[derive(Drop)]
+#[derive(Clone, Copy)]
 pub enum Touched {
     Done,
     Declined(u32),

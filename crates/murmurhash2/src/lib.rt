@@ -2,6 +2,8 @@
 //
 // It promises that for every seed and every key the answer is the public algorithm's, as specs/Murmur.antt writes it
 // down from document 01. It uses numbers and spans.
+#![tactic(auto)]
+
 ghost use Rattle.std.specs.Prelude.{◌≡◌, [], ◌∷◌, ◌-◌, ◌/◌, ◌^◌, ◌≤◌, ◌<◌, length, drop};
 ghost use Rattle.numbers.specs.LittleEndian.{le_number};
 ghost use Rattle.murmurhash2.specs.Murmur.{mixed, turned, taken, ended, murmur_hash2};

@@ -4,6 +4,8 @@
 // go on with. specs/Run.antt says what bytes come to, byte by byte, with each whole vint the vint reader's;
 // specs/Feed.antt what a call answers; specs/Promises.antt what is proved of it. It uses vint and limits, and numbers
 // and spans in contracts and proofs alone.
+#![tactic(auto)]
+
 ghost use Rattle.std.specs.Prelude.{◌≡◌, true, [], ◌∷◌, ◌++◌, ◌+◌, ◌-◌, ◌≤◌, ◌<◌, length, take, replicate};
 ghost use Rattle.limits.specs.Limits.{held_limit, fed_limit};
 ghost use Rattle.limits.specs.Refusals.{feeding_piece, permitted};
@@ -15,7 +17,7 @@ ghost use Rattle.number_pieces.specs.Turn.{turned, begun, turn_of, turns_of, fin
 use vint::Unvint;
 
 // The number reader's state between two pieces: the bytes of a cut vint, how many they are, and the bytes fed so far.
-#[derive(Drop)]
+#[derive(Clone, Copy)]
 pub struct Pieces {
     pub held: [u8; limits::HELD_LIMIT],
     pub count: usize,
@@ -23,14 +25,14 @@ pub struct Pieces {
 }
 
 // Whether it goes on, or a refusal's number and what it tells: the places that 8 needs, the place of 11 and 12.
-#[derive(Drop)]
+#[derive(Clone, Copy)]
 pub enum Stop {
     Going,
     Refused(u32, u64),
 }
 
 // The state, how many numbers stand at the output's front, and whether it goes on.
-#[derive(Drop)]
+#[derive(Clone, Copy)]
 pub struct Fed {
     pub state: Pieces,
     pub numbers: usize,
@@ -38,7 +40,7 @@ pub struct Fed {
 }
 
 // What a call has come to: held bytes, numbers given, bytes taken, and a refusal's number or 0.
-#[derive(Drop)]
+#[derive(Clone, Copy)]
 struct Run {
     held: [u8; limits::HELD_LIMIT],
     count: usize,

@@ -3,6 +3,8 @@
 //
 // It promises that each function answers its definition in specs/, for all arguments. The laws of those definitions,
 // once over the width, are in proofs/Laws.antt. It uses nothing.
+#![tactic(auto)]
+
 pub mod long;
 
 ghost use Rattle.std.specs.Prelude.{◌≡◌, ◌<◌, ◌^◌, min, [], ◌∷◌};

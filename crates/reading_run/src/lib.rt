@@ -5,6 +5,8 @@
 // the reader then; so vints may lie across blocks. specs/Run.antt says what a byte does, and proofs/Came.antt that all
 // together come to what specs/Readings.antt says. take_bytes has a `requires`: it is an inner function of the crate
 // readings. It uses limits, vint and signed, and numbers in proofs alone.
+#![tactic(auto)]
+
 ghost use Rattle.std.specs.Prelude.{◌≡◌, ◌+◌, ◌≤◌, ◌<◌, ◌^◌, length, set, take};
 ghost use Rattle.limits.specs.Limits.{vint_limit};
 ghost use Rattle.vint.specs.Vint.{read_vint};
@@ -14,7 +16,7 @@ use vint::Unvint;
 
 // What bytes have come to so far: those held of a vint and how many, the last reading, how many readings there were,
 // and a refusal's number or 0.
-#[derive(Drop)]
+#[derive(Clone, Copy)]
 pub struct Run {
     pub held: [u8; limits::VINT_LIMIT],
     pub count: usize,

@@ -6,6 +6,8 @@
 // reader's number tell the count of whole readings. specs/Readings.antt is that. The lane's bytes are gone over twice,
 // to count and to write. It uses limits, numbers, spans, vint, signed, reading_run, memory_arena, records,
 // shared_arena_hashmap, expull_header, expull_walk, store_state, store_create, store_look, store_append and store.
+#![tactic(auto)]
+
 ghost use Rattle.std.specs.Prelude.{◌≡◌, true, ◌+◌, ◌≤◌, length, take};
 ghost use Rattle.limits.specs.Refusals.{appending_reading, reading_readings, permitted};
 ghost use Rattle.memory_arena.specs.Calls.{sensible};
@@ -29,7 +31,7 @@ use store_look::Lookup;
 use store_state::State;
 
 // How many readings are at the output's front; absent; or a refusal's number and the count that it tells.
-#[derive(Drop)]
+#[derive(Clone, Copy)]
 pub enum Recalled {
     Readings(u64),
     Absent,
@@ -37,7 +39,7 @@ pub enum Recalled {
 }
 
 // A reading back's answer, and how many buckets its lookup looked at, as the store tells it.
-#[derive(Drop)]
+#[derive(Clone, Copy)]
 pub struct ToldReadings {
     pub answer: Recalled,
     pub walk: usize,

@@ -4,6 +4,8 @@
 // record, the name's length, where the header is and what it says; and that a record is written byte for byte. Its
 // functions are inner ones: whoever calls has made the whole-state check, and has met the record or found room for it.
 // It uses limits, numbers, spans, fastcpy, memory_arena and expull_header.
+#![tactic(auto)]
+
 ghost use Rattle.std.specs.Prelude.{◌≡◌, true, ◌+◌, ◌≤◌, ◌<◌, ◌^◌, length};
 ghost use Rattle.limits.specs.Limits.{name_limit};
 ghost use Rattle.spans.specs.Span.{overwrite};
@@ -14,7 +16,7 @@ use expull_header::Header;
 use memory_arena::Arena;
 
 // The header of a standing lane's list, or damage.
-#[derive(Drop)]
+#[derive(Clone, Copy)]
 pub enum Head {
     Sound(Header),
     Broken,

@@ -5,6 +5,8 @@
 // in order, and as absent where there was none; and every lent byte and word is what the appends leave one by one.
 // specs/Script.antt says which appends a script holds. It uses limits, spans, entries (the form of a script),
 // store_state, store_create, store_look, store_append and history, and the crates of the store's types.
+#![tactic(auto)]
+
 ghost use Rattle.std.specs.Prelude.{◌≡◌, ◌≤◌, length};
 ghost use Rattle.store_look.specs.Look.{lent};
 ghost use Rattle.history.specs.History.{play, state_after};

@@ -5,6 +5,8 @@
 // (4), bytes. It promises only that it ends and stays in bounds; what a replay leaves, crate replay promises. The file
 // stdout has the answers of oracle/replay.py. It uses limits, numbers, memory_arena, store_state and store_create (for
 // the state), replay, text, say, script, bench_state, bench_areas, bench_read, and the kit's io.
+#![tactic(auto)]
+
 use script::{lines, rows};
 use store_create::Created;
 use store_state::State;
@@ -19,7 +21,7 @@ const TABLE: [u8; 79] = *b"1 script BYTES
 ";
 
 // The store's state after the last replay, and how many bytes of the next script are gathered.
-#[derive(Drop)]
+#[derive(Clone, Copy)]
 struct Shift {
     st: State,
     gathered: usize,

@@ -4,6 +4,8 @@
 // with the bytes needed, and nothing is written; else the text of the lanes at the output's front, and no byte behind
 // it. specs/Report.antt is that. It uses store_state, store_create, store_look, store_append, report_text, report_put
 // and report_lanes.
+#![tactic(auto)]
+
 ghost use Rattle.std.specs.Prelude.{◌≡◌, true, ◌+◌, ◌^◌, ◌≤◌, ◌<◌, length};
 ghost use Rattle.limits.specs.Refusals.{reporting, permitted};
 ghost use Rattle.spans.specs.Span.{overwrite};
@@ -21,7 +23,7 @@ use report_lanes::{Measured, NextLane};
 use store_state::State;
 
 // The report's bytes, or a refusal's number and what it tells.
-#[derive(Drop)]
+#[derive(Clone, Copy)]
 pub enum Reported {
     Written(u64),
     Refused(u32, u64),

@@ -1,12 +1,14 @@
 // Feeds the report's reader many texts in one run: on standard input a text's length in decimal, a newline and its
 // bytes, again and again; a line for each, as report_check prints it. oracle/report.py made the texts that the gate
 // feeds it, and the answers. It promises only that it ends and stays in bounds.
+#![tactic(auto)]
+
 ghost use Rattle.std.specs.Prelude.{◌≤◌, ◌<◌, length};
 
 use libc::STDIN_FILENO;
 
 // A text's length, where one follows.
-#[derive(Drop)]
+#[derive(Clone, Copy)]
 struct Size {
     there: bool,
     bytes: u64,

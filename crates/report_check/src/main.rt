@@ -1,6 +1,8 @@
 // Checks a shift report on standard input, up to 65,536 bytes: prints ok, bad N with the first bad line, or, for more
 // bytes, long (document 02, One). It promises only that it ends and stays in bounds; what it says of the bytes is
 // proved of `report_read::check::check`. A read that fails counts as the input's end.
+#![tactic(auto)]
+
 use libc::STDIN_FILENO;
 
 // Whether a byte more can be read.

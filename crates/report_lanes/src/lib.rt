@@ -4,6 +4,8 @@
 // specs/Lanes.antt says which lanes a report has, or which damage ends it. The functions that are public here have
 // `requires`: they are inner functions of the crate report, which has made the whole-state check. It uses the store's
 // listing and its reading through a record.
+#![tactic(auto)]
+
 ghost use Rattle.std.specs.Prelude.{◌≡◌, true, ◌+◌, ◌≤◌, ◌<◌, length};
 ghost use Rattle.memory_arena.specs.Calls.{sensible};
 ghost use Rattle.records.specs.Record.{value_place};
@@ -16,7 +18,7 @@ use store_look::{Answer, Listed, Outcome};
 use store_state::State;
 
 // The next lane: its bucket, its record's place, the bytes of its name and its own; or none; or a refusal's number.
-#[derive(Drop)]
+#[derive(Clone, Copy)]
 pub enum NextLane {
     Lane(usize, u32, u64, u64),
     NoLane,
@@ -24,7 +26,7 @@ pub enum NextLane {
 }
 
 // How many lanes, their bytes, and the bytes of their text; or a refusal's number.
-#[derive(Drop)]
+#[derive(Clone, Copy)]
 pub enum Measured {
     Sums(u64, u64, u64),
     Halted(u32),

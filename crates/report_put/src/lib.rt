@@ -4,6 +4,8 @@
 // definitions, and nothing else. It uses spans, fastcpy and report_text. Its functions have `requires`: they are inner
 // functions
 // of the writer, which has measured the text and knows that it fits.
+#![tactic(auto)]
+
 ghost use Rattle.std.specs.Prelude.{◌≡◌, ◌+◌, ◌*◌, ◌%◌, ◌^◌, ◌≤◌, ◌<◌, length, drop};
 ghost use Rattle.spans.specs.Span.{overwrite};
 ghost use Rattle.report_text.specs.Text.{hex_digit, hex, decimal, line};

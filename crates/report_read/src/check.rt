@@ -15,7 +15,7 @@ use report_text::fields::{Decimal, Hexed};
 
 // What the next line is to be (0 store=, 1 terms=, 2 total=, 3 term= or end=, 4 len=, 5 bytes=, 6 none), terms= and
 // total= as told, the whole lanes and their bytes so far, and the length that a lane told.
-#[derive(Drop)]
+#[derive(Clone, Copy)]
 pub struct Progress {
     pub expected: u32,
     pub terms: u64,
@@ -26,14 +26,14 @@ pub struct Progress {
 }
 
 // What a line makes of it.
-#[derive(Drop)]
+#[derive(Clone, Copy)]
 pub enum Line {
     Good(Progress),
     Bad,
 }
 
 // The lanes and their bytes, or refusal 15 and the first bad line.
-#[derive(Drop)]
+#[derive(Clone, Copy)]
 pub enum Checked {
     Lanes(u64, u64),
     Refused(u32, u64),

@@ -5,6 +5,8 @@
 // Each promises, for any bytes, what `text_read` of report_text says, the definition of reading. It goes line by line
 // and keeps no lane: to find a name that was seen before it goes from lane to lane over the text again, where its notes
 // don't say already that it wasn't. It uses limits, numbers, spans, fastcmp, murmurhash2, marks and report_text.
+#![tactic(auto)]
+
 pub mod check;
 pub mod pick;
 pub mod unhex;

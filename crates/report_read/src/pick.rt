@@ -8,7 +8,7 @@ ghost use Rattle.report_read.specs.Said.{said_picked};
 use crate::check::Checked;
 
 // Start and length of the name's hex, and of the bytes'; or no such lane; or refusal 15 and the first bad line.
-#[derive(Drop)]
+#[derive(Clone, Copy)]
 pub enum Picked {
     Lane(usize, usize, usize, usize),
     NoSuchLane,

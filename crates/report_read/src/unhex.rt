@@ -8,7 +8,7 @@ ghost use Rattle.report_read.specs.Unhex.{byte_in, or_none, out, unhex_of};
 ghost use Rattle.report_read.specs.Said.{said_unhexed};
 
 // How many bytes were written; or no hex; or refusal 8 and the bytes needed.
-#[derive(Drop)]
+#[derive(Clone, Copy)]
 pub enum Unhexed {
     Bytes(u64),
     NoHex,

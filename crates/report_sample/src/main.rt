@@ -1,6 +1,8 @@
 // Document 02's two worked reports, written by the writer from a store of its own: an empty one, then one with lane A
 // and the bytes 1, 2, 3. Each is read back by the reader, lane by lane, and asked for again with too short an output.
 // It promises only that it ends and stays in bounds; oracle/report.py made the text that it is held to.
+#![tactic(auto)]
+
 ghost use Rattle.std.specs.Prelude.{◌≤◌, ◌<◌, length};
 
 use libc::STDOUT_FILENO;

@@ -1,6 +1,8 @@
 // What the report's programs print of a text: ok, bad N with the first bad line, or long (document 02, One).
 //
 // What is said of the bytes is proved of `report_read::check::check`; that it is printed isn't.
+#![tactic(auto)]
+
 use libc::STDOUT_FILENO;
 use report_read::check::Checked;
 

@@ -4,7 +4,7 @@ ghost use Rattle.report_text.specs.Reader.{is_digit, is_hex, number_from, number
 ghost use Rattle.report_text.specs.Values.{decimal_of, hexed_of, begins_with, hex_text};
 
 // A decimal, or none.
-#[derive(Drop)]
+#[derive(Clone, Copy)]
 pub enum Decimal {
     Number(u64),
     NoNumber,
@@ -88,7 +88,7 @@ pub fn is_hex_text(text: &[u8]) -> bool
 }
 
 // How many bytes hex stands for, or none.
-#[derive(Drop)]
+#[derive(Clone, Copy)]
 pub enum Hexed {
     Bytes(u64),
     NoBytes,

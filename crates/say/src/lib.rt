@@ -2,6 +2,8 @@
 //
 // It promises that each call ends and stays inside what is lent, and asks nothing of its callers; what is written goes
 // through a C function whose contract the kit assumes. It uses numbers and text, and the kit's io and libc.
+#![tactic(auto)]
+
 ghost use Rattle.std.specs.Prelude.{◌*◌, ◌≤◌, length};
 
 use libc::STDOUT_FILENO;

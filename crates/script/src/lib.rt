@@ -3,5 +3,7 @@
 // It promises of any bytes that each call ends and stays inside what is lent, and asks nothing of its callers. What is
 // read goes through a C function whose contract the kit assumes. It uses numbers, fastcpy, text and say, and the kit's
 // io and libc.
+#![tactic(auto)]
+
 pub mod lines;
 pub mod rows;

@@ -4,7 +4,7 @@ ghost use Rattle.std.specs.Prelude.{◌-◌, ◌≤◌};
 use libc::STDIN_FILENO;
 
 // What is known between two lines.
-#[derive(Drop)]
+#[derive(Clone, Copy)]
 pub struct Lines {
     // how many lines may still come, none behind the last. A proved loop over the lines has to end, and nothing says
     // that the input does: they are counted down from a number that no run uses up

@@ -4,6 +4,8 @@
 // pages: a lookup looks at no more than L buckets and reads no record that isn't a good span. Its functions are inner
 // ones: the store has made the whole-state check before it calls, and what they ask of their caller is part of that
 // check. It uses limits, numbers, spans, fastcmp, memory_arena and records.
+#![tactic(auto)]
+
 pub mod grow;
 
 ghost use Rattle.std.specs.Prelude.{◌≡◌, true, ◌+◌, ◌*◌, ◌≤◌, ◌<◌, ◌^◌, length};
@@ -14,7 +16,7 @@ ghost use Rattle.shared_arena_hashmap.specs.Probe.{seen_record, seen_at, start_o
 use memory_arena::Arena;
 
 // What a bucket is to a lookup: empty, the name's own with its record's place, a broken record, or another's.
-#[derive(Drop)]
+#[derive(Clone, Copy)]
 pub enum Seen {
     Nothing,
     Same(u32),
@@ -23,7 +25,7 @@ pub enum Seen {
 }
 
 // What a lookup met at its end: an empty bucket, the name's record, damage, or nothing in a whole lap.
-#[derive(Drop)]
+#[derive(Clone, Copy)]
 pub enum Met {
     Empty,
     Standing(u32),
@@ -32,14 +34,14 @@ pub enum Met {
 }
 
 // A lookup's end, and how many buckets it looked at, the last one included.
-#[derive(Drop)]
+#[derive(Clone, Copy)]
 pub struct Walk {
     pub met: Met,
     pub looked: usize,
 }
 
 // The next occupied bucket and its record's place, or none.
-#[derive(Drop)]
+#[derive(Clone, Copy)]
 pub enum Next {
     Occupied(usize, u32),
     NoMore,

@@ -7,3 +7,4 @@
 //
 // It uses limits, numbers, fastcmp, memory_arena, shared_arena_hashmap, expull_header, expull_walk, expull_append,
 // store_state, store_create, store_look, store_append, history_lanes, history_names, history and lending.
+#![tactic(auto)]

@@ -103,4 +103,4 @@ module _ (n : ℕ) (h : n < 2 ^ 31) where
 -- ---- a signed result read back
 
 pub result_is : (z x : ℤ) → z ≡ x → mag x < 2 ^ 31 → to_z w32 (of_z w32 z) ≡ x
-result_is z x e h = rw e (to_z-of_z (record { sfits = h }))
+result_is z x e h = rw e (to_z-of_z {w = w32} (record { sfits = h }))

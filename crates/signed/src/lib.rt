@@ -3,6 +3,8 @@
 //
 // It promises what specs/Signed.antt says, for all arguments; specs/Promises.antt, that each difference comes back from
 // its number and each reading from its difference. It uses numbers.
+#![tactic(auto)]
+
 ghost use Rattle.std.specs.Prelude.{◌≡◌, true, ◌^◌, ◌<◌, pos, negsuc};
 ghost use Rattle.std.specs.Int.Signed.{lt_z};
 ghost use Rattle.signed.specs.Signed.{modulo, as_signed, difference as difference_of, following as following_of};

@@ -4,6 +4,8 @@
 // its 64 bytes are written; docs/LAYOUT.md has the layout, specs/Area.antt the definition. Whether the numbers are
 // those of a store is the whole-state check's to say, in each call. It uses spans, memory_arena, store_state and
 // store_look.
+#![tactic(auto)]
+
 ghost use Rattle.std.specs.Prelude.{◌≡◌, cond, ◌+◌, ◌≤◌, length};
 ghost use Rattle.numbers.specs.LittleEndian.{le_bytes};
 ghost use Rattle.spans.specs.Span.{overwrite};

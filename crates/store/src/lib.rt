@@ -5,3 +5,4 @@
 // the definitions that the calls' contracts cite; `proofs/` has the theorems. It uses limits, numbers, spans,
 // murmurhash2, memory_arena, records, shared_arena_hashmap, expull_header, expull_append, store_state, store_create,
 // store_look and store_append.
+#![tactic(auto)]

@@ -6,6 +6,8 @@
 // the state back equal. Its contract is one equation: the answer and every lent slice as the call leaves it. It uses
 // limits, spans, murmurhash2, fastcpy, memory_arena, records, shared_arena_hashmap, expull_header, expull_append,
 // store_state and store_look.
+#![tactic(auto)]
+
 ghost use Rattle.std.specs.Prelude.{◌≡◌, true, false, ◌+◌, ◌/◌, ◌≤◌, ◌<◌, length};
 ghost use Rattle.limits.specs.Limits.{name_limit, bucket_limit};
 ghost use Rattle.limits.specs.Refusals.{appending, permitted};
@@ -29,7 +31,7 @@ use shared_arena_hashmap::Met;
 use store_state::{Name, State};
 
 // An append's answer: the state comes back either way.
-#[derive(Drop)]
+#[derive(Clone, Copy)]
 pub enum Appended {
     Accepted(State),
     Declined(State, u32),
@@ -37,7 +39,7 @@ pub enum Appended {
 
 // An append's answer, and beside it the walk: how many buckets the lookup of its name looked at, before any growth, the
 // last one included; 0 where it was refused before that (document 02, Ten).
-#[derive(Drop)]
+#[derive(Clone, Copy)]
 pub struct ToldAppend {
     pub answer: Appended,
     pub walk: usize,

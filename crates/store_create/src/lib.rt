@@ -3,6 +3,8 @@
 // It promises, for any numbers and any lent memory: it ends, stays inside what is lent, and makes the store or refuses
 // it by number 1, exactly as specs/ says: one equation over the answer and the lent table; a refusal changes no word.
 // It uses limits, memory_arena, shared_arena_hashmap and store_state.
+#![tactic(auto)]
+
 ghost use Rattle.std.specs.Prelude.{◌≡◌, true, length};
 ghost use Rattle.limits.specs.Limits.{page_taken, arena_limit_for};
 ghost use Rattle.limits.specs.Refusals.{creating, permitted};
@@ -14,7 +16,7 @@ use memory_arena::Arena;
 use store_state::State;
 
 // A creation's answer.
-#[derive(Drop)]
+#[derive(Clone, Copy)]
 pub enum Created {
     Made(State),
     Barred(u32),

@@ -4,6 +4,8 @@
 // refuses by a number of documents 01 and 02, exactly as specs/ says; a refusal changes no byte of the output. Each
 // contract is one equation: the answer, and the output as the call leaves it. It uses limits, murmurhash2,
 // memory_arena, records, shared_arena_hashmap, expull_header, expull_walk and store_state.
+#![tactic(auto)]
+
 pub mod lane;
 pub mod listing;
 
@@ -15,7 +17,7 @@ use shared_arena_hashmap::Walk;
 use store_state::State;
 
 // A lookup's answer: either the record's place or the plain word absent, never both.
-#[derive(Drop)]
+#[derive(Clone, Copy)]
 pub enum Lookup {
     At(u32),
     Missing,
@@ -23,7 +25,7 @@ pub enum Lookup {
 }
 
 // What a standing lane's list answers.
-#[derive(Drop)]
+#[derive(Clone, Copy)]
 pub enum Outcome {
     Length(u64),
     Reading(u64),
@@ -32,7 +34,7 @@ pub enum Outcome {
 }
 
 // An answer by name: absent, found with the list's outcome inside it, or refused with a number and what it tells.
-#[derive(Drop)]
+#[derive(Clone, Copy)]
 pub enum Answer {
     Absent,
     Found(Outcome),
@@ -41,21 +43,21 @@ pub enum Answer {
 
 // Beside each answer by name stands the walk: how many buckets the call's lookup looked at, the last one included, and
 // 0 where the call was refused before its lookup or given the empty name (document 02, Ten).
-#[derive(Drop)]
+#[derive(Clone, Copy)]
 pub struct ToldLookup {
     pub answer: Lookup,
     pub walk: usize,
 }
 
 // The same of a call on a standing lane's list.
-#[derive(Drop)]
+#[derive(Clone, Copy)]
 pub struct ToldAnswer {
     pub answer: Answer,
     pub walk: usize,
 }
 
 // A listing's answer: the next occupied bucket and its record's place, none, or a refusal.
-#[derive(Drop)]
+#[derive(Clone, Copy)]
 pub enum Listed {
     Bucket(usize, u32),
     NoMore,
@@ -63,7 +65,7 @@ pub enum Listed {
 }
 
 // The number of keys, or a refusal.
-#[derive(Drop)]
+#[derive(Clone, Copy)]
 pub enum Counted {
     Keys(usize),
     Unknown(u32),

@@ -4,6 +4,8 @@
 // append itself would leave it; where it doesn't, nothing has changed, and it tells the refusal, or the lookup that the
 // append goes on from. It uses murmurhash2, records, shared_arena_hashmap, expull_header, expull_append, store_state,
 // store_look and store_append.
+#![tactic(auto)]
+
 ghost use Rattle.std.specs.Prelude.{◌≡◌, true, ◌+◌, ◌≤◌, length};
 ghost use Rattle.limits.specs.Limits.{page_taken, bucket_limit};
 ghost use Rattle.spans.specs.Span.{overwrite};
@@ -22,7 +24,7 @@ use store_state::{Name, State};
 
 // How far the short way of an append got: the append is done, or refused by a number before its lookup; or the name was
 // looked up, by this hash, and this is what that met and how many buckets it looked at.
-#[derive(Drop)]
+#[derive(Clone, Copy)]
 pub enum Tried {
     Done,
     Refused(u32),

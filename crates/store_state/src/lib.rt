@@ -3,6 +3,8 @@
 // It promises, for any state, any lengths and any name: whether the state is whole, and what the name is to the store,
 // exactly as specs/ says. It changes nothing. `first_bucket`, an inner function, asks that the table is no longer than
 // the lent words. It uses limits, memory_arena and shared_arena_hashmap.
+#![tactic(auto)]
+
 ghost use Rattle.std.specs.Prelude.{◌≡◌, ◌≤◌, ◌/◌};
 ghost use Rattle.store_state.specs.State.{whole_state, words_taken, lengths_equal, table_fits, first_of};
 ghost use Rattle.store_state.specs.Name.{name_limit_of, name_kind};
@@ -10,7 +12,7 @@ ghost use Rattle.store_state.specs.Name.{name_limit_of, name_kind};
 use memory_arena::Arena;
 
 // What the store remembers between calls (document 01, "Numbers that bound the store").
-#[derive(Drop)]
+#[derive(Clone, Copy)]
 pub struct State {
     pub seed: u32,
     // the three lent lengths: words of the table, bytes of the key pages and of the list pages
@@ -27,7 +29,7 @@ pub struct State {
 }
 
 // What a name is to the store: over the limit, of no bytes, or one that a lane can have.
-#[derive(Drop)]
+#[derive(Clone, Copy)]
 pub enum Name {
     TooLong,
     Nameless,

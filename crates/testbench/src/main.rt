@@ -7,6 +7,8 @@
 // lies on the stack: 131,072 table words, 2 whole key pages, 3 whole list pages; for a second store 4,096 words,
 // 196,608 and 327,680 bytes; a flat buffer of 196,608 bytes. It uses text, say, script, the libraries of its commands
 // (their names begin with bench_), store_state and memory_arena (the state's type), and the kit's io.
+#![tactic(auto)]
+
 mod commands;
 mod play;
 

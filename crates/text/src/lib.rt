@@ -2,6 +2,8 @@
 //
 // It promises of any bytes that each call ends and stays inside what is lent, and asks nothing of its callers. It uses
 // numbers and fastcmp.
+#![tactic(auto)]
+
 mod expand;
 pub mod fault;
 pub mod scan;

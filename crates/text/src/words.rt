@@ -4,14 +4,14 @@ ghost use Rattle.std.specs.Prelude.{◌≤◌, length};
 use crate::fault::first;
 
 // A number, or why there is none.
-#[derive(Drop)]
+#[derive(Clone, Copy)]
 pub struct Number {
     pub value: u64,
     pub fault: u32,
 }
 
 // The numbers of a line; those that weren't asked for are 0.
-#[derive(Drop)]
+#[derive(Clone, Copy)]
 pub struct Numbers {
     pub a: u64,
     pub b: u64,
@@ -22,14 +22,14 @@ pub struct Numbers {
 }
 
 // How many bytes were put in a lent area, or why none.
-#[derive(Drop)]
+#[derive(Clone, Copy)]
 pub struct Taken {
     pub n: usize,
     pub fault: u32,
 }
 
 // How many bytes were put in two lent areas, or why none.
-#[derive(Drop)]
+#[derive(Clone, Copy)]
 pub struct Both {
     pub n: usize,
     pub m: usize,

@@ -5,19 +5,21 @@
 // number and the bytes taken, or refusal 11 without an end, or 12 for a form that the writer doesn't write (document
 // 02, Five). specs/Vint.antt says what that means, and specs/Promises.antt what is proved of both: each number has
 // exactly one accepted form, the written one. It uses limits, and numbers in contracts and proofs alone.
+#![tactic(auto)]
+
 ghost use Rattle.std.specs.Prelude.{◌≡◌, true, ◌+◌, ◌-◌, ◌*◌, ◌%◌, ◌^◌, ◌≤◌, ◌<◌};
 ghost use Rattle.limits.specs.Refusals.{unvinting, permitted};
 ghost use Rattle.vint.specs.Vint.{vint_of, ended, is_another_form, answer_of, read_vint, said_unvint};
 
 // A vint by value: its bytes, zeros after them, and how many they are.
-#[derive(Drop)]
+#[derive(Clone, Copy)]
 pub struct Vint {
     pub bytes: [u8; limits::VINT_LIMIT],
     pub count: usize,
 }
 
 // A number and the bytes taken for it, or a refusal's number.
-#[derive(Drop)]
+#[derive(Clone, Copy)]
 pub enum Unvint {
     Number(u32, usize),
     Refused(u32),

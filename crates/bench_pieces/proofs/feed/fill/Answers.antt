@@ -1,0 +1,13 @@
+-- The invariant: the places stay as many. The measure is what is left of them. Assumes nothing.
+use native.Mathlib.Omega.{arith}
+use lib.ListN.{length, length-set}
+use mathlib.Core.Path.{◌≡◌}
+use Prim.Native.Nat.{◌≤◌, ◌-◌}
+use borrow.Author.Rules.{rules}
+use Rattle.bench_pieces.proofs.feed.fill.Goals as goal
+
+pub loop-i-smaller : goal.loop-i-smaller
+loop-i-smaller c = simp length-set (omega arith)
+
+pub loop-i-preserved : goal.loop-i-preserved
+loop-i-preserved c = simp length-set (omega arith)

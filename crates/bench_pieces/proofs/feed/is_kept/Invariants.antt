@@ -1,0 +1,11 @@
+-- The measure is what is left of the places. Assumes nothing.
+use lib.ListN.{length}
+use Prim.Native.Nat.{◌≤◌, ◌-◌}
+use borrow.Author.Rules.{rules}
+use Rattle.bench_pieces.proofs.feed.is_kept.Given as goal
+
+abbrev pub invariant-loop-i : goal.invariant-loop-i
+invariant-loop-i l = l.i ≤ length l.places
+
+abbrev pub decreases-loop-i : goal.decreases-loop-i
+decreases-loop-i l = length l.places - l.i

@@ -1,0 +1,17 @@
+-- `fastcpy::copy_parts` meets its contract. The invariant: as far as the parts have come, the destination is the
+-- source. Assumes nothing.
+use Prim.Native.Nat.{◌≤◌, ◌-◌, zero-le}
+use mathlib.Core.Path.{◌≡◌, refl, sym, ◌∙◌}
+use native.Mathlib.Omega.{arith}
+use lib.Seq.{take_all}
+use lib.ListN.{length, take, drop}
+use borrow.Rule.Slice.PartMut.{mid_len}
+use borrow.Author.Rules.{rules}
+use Rattle.fastcpy.proofs.Laws.{part_on_back}
+use Rattle.fastcpy.proofs.copy_parts.Given as goal
+
+abbrev pub invariant-loop-at : goal.invariant-loop-at
+invariant-loop-at l = (l.at ≤ length l.src) × ((length l.src ≡ length l.dst) × (take l.at l.dst ≡ take l.at l.src))
+
+abbrev pub decreases-loop-at : goal.decreases-loop-at
+decreases-loop-at l = length l.src - l.at

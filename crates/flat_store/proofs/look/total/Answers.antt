@@ -1,0 +1,6 @@
+-- `flat_store::look::total` meets its contract. Assumes nothing.
+use borrow.Author.Rules.{rules}
+use Rattle.flat_store.proofs.look.total.Goals as goal
+
+pub returns-then-t : goal.returns-then-t
+returns-then-t c = rw c.if-t.true

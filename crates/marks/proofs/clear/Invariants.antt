@@ -1,0 +1,12 @@
+use Prim.Native.Nat.{ℕ, ◌-◌, ◌<◌}
+use mathlib.Core.Path.{◌≡◌, refl}
+use native.Mathlib.Omega.{arith}
+use lib.ListN.{length, get_or, length-set}
+use Rattle.marks.proofs.Laws.{cleared-turn, cleared-end}
+use Rattle.marks.proofs.clear.Given as goal
+
+abbrev pub invariant-loop-i : goal.invariant-loop-i
+invariant-loop-i l = (length l.marks ≡ length l.initial.marks) × ((j : ℕ) → j < l.i → get_or l.marks j 0 ≡ 0)
+
+abbrev pub decreases-loop-i : goal.decreases-loop-i
+decreases-loop-i l = length l.marks - l.i

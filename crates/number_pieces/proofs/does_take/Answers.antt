@@ -1,0 +1,17 @@
+-- `number_pieces::does_take` meets its contract. Assumes nothing.
+use mathlib.Core.Path.{sym, ◌∙◌}
+use native.Mathlib.Omega.{arith}
+use borrow.Author.Rules.{rules}
+use borrow.Author.Tests.{not-true, not-false}
+use Rattle.number_pieces.proofs.Turns.{takes_many, takes_top, takes-room}
+use Rattle.number_pieces.proofs.does_take.Goals as goal
+
+pub returns-then-count-gt-HELD_LIMIT : goal.returns-then-count-gt-HELD_LIMIT
+returns-then-count-gt-HELD_LIMIT c = sym (takes_many c.args.st c.args.n (omega arith))
+
+pub returns-then-not-is_low : goal.returns-then-not-is_low
+returns-then-not-is_low c =
+    sym (takes_top c.args.st c.args.n (omega arith) (sym c.is_low.ensures ∙ c.if-not-is_low.true))
+
+pub returns : goal.returns
+returns c = takes-room c.args.st c.args.n (omega arith) (sym c.is_low.ensures ∙ c.if-not-is_low.false) (omega arith)

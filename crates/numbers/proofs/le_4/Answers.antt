@@ -1,0 +1,9 @@
+-- Four bytes as a number. Assumes nothing.
+use native.Mathlib.Omega.{arith}
+use borrow.Author.Rules.{rules}
+use Rattle.numbers.specs.LittleEndian.{le_number}
+use Rattle.numbers.proofs.le_4.Goals as goal
+
+pub returns : goal.returns
+unfolding le_number
+returns c = omega arith

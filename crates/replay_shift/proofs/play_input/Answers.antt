@@ -1,0 +1,12 @@
+-- The invariant: every area keeps its length. The measure is the lines that may come. Assumes nothing.
+use mathlib.Core.Path.{◌≡◌}
+use lib.ListN.{length}
+use native.Mathlib.Omega.{arith}
+use borrow.Author.Rules.{rules}
+use Rattle.replay_shift.proofs.play_input.Goals as goal
+
+pub loop-lines-smaller : goal.loop-lines-smaller
+loop-lines-smaller c = omega (arith, c.next-lines.ensures, c.loop-lines-test)
+
+pub loop-lines-preserved : goal.loop-lines-preserved
+loop-lines-preserved c = omega (arith, c.play_line-shift.kept, c.next-lines.kept, c.loop-lines.invariant)

@@ -1,0 +1,13 @@
+-- `report_put::spread` meets its contract. Assumes nothing.
+use Prim.Native.Nat.{◌+◌, ◌-◌, ◌*◌, ◌/◌, ◌%◌, ◌≤◌, ◌<◌}
+use mathlib.Core.Path.{◌≡◌, refl, sym, ap, ◌∙◌}
+use native.Mathlib.Omega.{arith}
+use lib.ListN.{length, drop, length-set, length-drop}
+use Rattle.report_put.proofs.Laws.{Putting, putting_starts, putting-length, putting-on, spread-read, spread-ends}
+use Rattle.report_put.proofs.spread.Given as goal
+
+abbrev pub invariant-loop-i : goal.invariant-loop-i
+invariant-loop-i l = Putting 0 (drop l.n l.initial.part) l.initial.part l.part l.p l.i
+
+abbrev pub decreases-loop-i : goal.decreases-loop-i
+decreases-loop-i l = l.n - l.i

@@ -1,0 +1,20 @@
+-- Case by case. Assumes nothing.
+use mathlib.Core.Path.{sym, ap, ◌∙◌}
+use borrow.Author.Rules.{rules}
+use Rattle.store_look.proofs.Found.{next-good, next_bad, next_none}
+use Rattle.store_look.specs.Look.{on_next}
+use Rattle.store_look.proofs.listing.on_next.Goals as goal
+
+pub returns-then-is_good_record : goal.returns-then-is_good_record
+returns-then-is_good_record c =
+    sym (ap (λ n. on_next n c.args.arena c.args.keys.now) c.in-Occupied.is ∙ next-good c.args.arena c.args.keys.now
+    _ _ (sym c.is_good_record.ensures ∙ c.if-is_good_record.true))
+
+pub returns-else-is_good_record : goal.returns-else-is_good_record
+returns-else-is_good_record c =
+    sym (ap (λ n. on_next n c.args.arena c.args.keys.now) c.in-Occupied.is ∙ next_bad c.args.arena c.args.keys.now _
+    _ (sym c.is_good_record.ensures ∙ c.if-is_good_record.false))
+
+pub returns-in-NoMore : goal.returns-in-NoMore
+returns-in-NoMore c =
+    sym (ap (λ n. on_next n c.args.arena c.args.keys.now) c.in-NoMore.is ∙ next_none c.args.arena c.args.keys.now)

@@ -1,0 +1,23 @@
+-- The two tests, in their order. Assumes nothing.
+use Prim.Native.Nat.{ℕ, ◌≤◌, ◌<◌}
+use mathlib.Core.Path.{sym, subst}
+use native.Mathlib.Omega.{arith}
+use borrow.Author.Rules.{rules}
+use Rattle.store_state.proofs.Guard.{kind-long, kind-nameless, kind_proper}
+use Rattle.store_state.proofs.name_kind.Goals as goal
+
+pub returns-then-limit-n : goal.returns-then-limit-n
+returns-then-limit-n c =
+    sym (kind-long c.args.st c.args.n (subst (λ (k : ℕ). k < c.args.n) c.name_limit-limit.ensures
+    c.if-limit-n.true))
+
+pub returns-then-n-eq0 : goal.returns-then-n-eq0
+returns-then-n-eq0 c = sym (kind-nameless c.args.st c.args.n (omega arith))
+
+pub returns : goal.returns
+returns c =
+    sym (kind_proper c.args.st c.args.n (omega arith) (omega (
+      arith,
+      c.name_limit-limit.ensures,
+      c.if-limit-n.false,
+    )))
