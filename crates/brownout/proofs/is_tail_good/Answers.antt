@@ -6,6 +6,7 @@ use Rattle.store_look.specs.Look.{lent}
 use Rattle.brownout.proofs.Turns.{tail_none, tail_some, tail_lost}
 use Rattle.expull_header.proofs.Laws.{sound_facts}
 use borrow.Author.Rules.{rules}
+use borrow.Enum.Refused.{opened}
 use Rattle.brownout.proofs.is_tail_good.Goals as goal
 
 pub returns-then-h-eq2 : goal.returns-then-h-eq2
@@ -21,8 +22,8 @@ find_block-found-requires c = (c.requires.0, c.requires.1.0)
 pub returns-in_default : goal.returns-in_default
 returns-in_default c =
     let a = c.args in tail_lost (lent a.table.now a.keys.now a.lists.now) a.arena a.h c.requires.1.0 c.requires.1.1
-    c.if-h-eq2.false (a.h.number - 3) c.find_block-found.result refl c.find_block-found.ensures
-    c.in_default.in_default-own.keys2
+    c.if-h-eq2.false (a.h.number - 3) c.find_block-found.result refl c.find_block-found.ensures (opened
+    c.in_default.in_default-own.keys2)
 
 pub returns : goal.returns
 returns c =

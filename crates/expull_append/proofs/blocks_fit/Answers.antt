@@ -7,6 +7,7 @@ use Rattle.expull_append.proofs.Loops.{planning-end, plan_left, planning-turn, p
 use Rattle.expull_append.proofs.Loops.{planning-few}
 use Rattle.memory_arena.proofs.Laws.{sensible_wide}
 use Rattle.expull_append.specs.Append.{planned, plan_of, is_some}
+use borrow.Enum.Refused.{opened}
 use Rattle.expull_append.proofs.blocks_fit.Goals as goal
 use Rattle.expull_append.proofs.blocks_fit.Goals.{After-less-left}
 
@@ -29,8 +30,8 @@ find_room-requires c =
 pub returns-in_default : goal.returns-in_default
 returns-in_default c =
     sym (ap is_some (whole (goal.at.returns-in_default c).After-less-left ∙ planning-turn c.loop-left.invariant
-    c.loop-left-test.true c.get_block_size-size.ensures.0 c.find_room.ensures ∙ no_room c.find_room.result _
-    c.in_default.in_default-own.keys2))
+    c.loop-left-test.true c.get_block_size-size.ensures.0 c.find_room.ensures ∙ no_room c.find_room.result _ (opened
+    c.in_default.in_default-own.keys2)))
 
 pub loop-left-preserved : goal.loop-left-preserved
 loop-left-preserved c =

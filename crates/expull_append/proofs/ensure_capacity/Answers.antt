@@ -12,6 +12,7 @@ use Rattle.expull_append.specs.Append.{Writing, writing, next_wide, header_with}
 use Rattle.memory_arena.proofs.Laws.{sensible_wide}
 use Rattle.memory_arena.specs.Pages.{room_for}
 use Rattle.limits.specs.Limits.{link_size}
+use borrow.Enum.Refused.{opened}
 use Rattle.expull_append.proofs.ensure_capacity.Goals as goal
 use Rattle.expull_append.proofs.ensure_capacity.Goals.{After-find_room}
 
@@ -31,8 +32,8 @@ find_room-requires c = (omega arith, (omega (arith, sensible_wide _ _ c.requires
 pub returns-in_default : goal.returns-in_default
 returns-in_default c =
     absurd (waiting_room (length c.args.lists.now) c.args.w.arena c.args.w.header c.find_room.result
-    c.if-h-ne0.false (found (goal.at.returns-in_default c).After-find_room) c.requires.1.1.1
-    c.in_default.in_default-own.keys2)
+    c.if-h-ne0.false (found (goal.at.returns-in_default c).After-find_room) c.requires.1.1.1 (opened
+    c.in_default.in_default-own.keys2))
 
 pub put_link-head-requires : goal.put_link-head-requires
 put_link-head-requires c =

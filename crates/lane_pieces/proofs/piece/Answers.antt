@@ -13,16 +13,18 @@ use Rattle.lane_pieces.specs.Piece.{Out, out}
 use Rattle.lane_pieces.specs.Said.{said_pieced}
 use Rattle.lane_pieces.proofs.Pieces.{piece-looked, piece_not}
 use Rattle.lane_pieces.proofs.Fair.{fair-piece}
+use borrow.Enum.Refused.{opened}
 use Rattle.lane_pieces.proofs.piece.Goals as goal
 
 pub returns-in_default : goal.returns-in_default
 returns-in_default c =
     let m = lent c.args.table.now c.args.keys.now c.args.lists.now in
     let e = ap (λ (r : Pieced). out r c.args.output.now) c.not_found.ensures ∙ piece_not c.args.st m c.args.name.now
-    c.args.given c.args.output.now _ c.lookup-looked.ensures.settled c.in_default.in_default-own.keys2 in record {
+    c.args.given c.args.output.now _ c.lookup-looked.ensures.settled (opened c.in_default.in_default-own.keys2) in
+    record {
       settled = e;
-      numbered = subst (λ (r : Out). permitted reading_piece (said_pieced r.answer) ≡ true) (sym e)
-          (fair-piece c.args.st m c.args.name.now c.args.given c.args.output.now).numbered;
+      numbered = subst (λ (r : Out). permitted reading_piece (said_pieced r.answer) ≡ true) (sym
+          e) (fair-piece c.args.st m c.args.name.now c.args.given c.args.output.now).numbered;
       walked =
           c.lookup-looked.ensures.walked;
     }

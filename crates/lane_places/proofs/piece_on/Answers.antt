@@ -12,6 +12,7 @@ use Rattle.lane_pieces.specs.Said.{said_pieced}
 use Rattle.lane_places.specs.PieceOn.{Out, out}
 use Rattle.lane_places.proofs.PieceOn.{on-looked, on_not}
 use Rattle.lane_places.proofs.Fair.{fair-on}
+use borrow.Enum.Refused.{opened}
 use Rattle.lane_places.proofs.piece_on.Goals as goal
 
 pub returns-in_default : goal.returns-in_default
@@ -19,11 +20,12 @@ returns-in_default c =
     let m = lent c.args.table.now c.args.keys.now c.args.lists.now in
     let r = c.stays.ensures.0 ∙ c.not_found.ensures in
     let e = (λ i. out (r i) (c.stays.ensures.1 i) c.args.output.now) ∙ on_not c.args.st m c.args.name.now c.args.p
-    c.args.output.now _ c.lookup-looked.ensures.settled c.in_default.in_default-own.keys2 in record {
+    c.args.output.now _ c.lookup-looked.ensures.settled (opened c.in_default.in_default-own.keys2) in record {
       settled = e;
-      numbered = subst (λ (r : Out). permitted reading_piece (said_pieced r.answer) ≡ true) (sym e) (fair-on c.args.st
-          m c.args.name.now c.args.p c.args.output.now).numbered;
-      walked = c.lookup-looked.ensures.walked;
+      numbered = subst (λ (r : Out). permitted reading_piece (said_pieced r.answer) ≡ true) (sym e)
+          (fair-on c.args.st m c.args.name.now c.args.p c.args.output.now).numbered;
+      walked =
+          c.lookup-looked.ensures.walked;
     }
 
 pub piece_on_at-requires : goal.piece_on_at-requires

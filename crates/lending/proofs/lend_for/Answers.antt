@@ -14,45 +14,47 @@ use Rattle.lending.proofs.lend_for.Goals as goal
 use Rattle.lending.proofs.lend_for.Goals.{After-least-name_most, After-list_bytes_for-lists, Else-not-are_few, Else-not-is_page_size}
 
 -- ---- what the tests say
-
-page_so : (c : tie.Else1) → page_taken c.before.before.args.page ≡ true
-page_so c = sym c.before.is-page-size.ensures ∙ not-false _ c.if1.false
-
--- ---- the needs
-
-is-page-size-requires : tie.Need-is-page-size-requires
-is-page-size-requires c κs = search rules
+page_so : (c : Else-not-is_page_size) → page_taken c.args.page ≡ true
+page_so c = sym c.is_page_size.ensures ∙ c.if-not-is_page_size.false
 
 page_in : (c : Else-not-is_page_size) → (65536 ≤ c.args.page) × (c.args.page ≤ 1048576)
-page_in c = (page_least c.args.page (page_so c), page_most c.args.page (page_so c))
+page_in c = (
+  page_least c.args.page (let it : page_taken c.args.page ≡ true = sym c.is_page_size.ensures ∙
+      c.if-not-is_page_size.false in it),
+  page_most c.args.page (let it : page_taken c.args.page ≡ true = sym
+      c.is_page_size.ensures ∙ c.if-not-is_page_size.false in it),
+)
 
 asked : (c : After-least-name_most) → (b : Bool) → (leb c.args.lanes bucket_limit && (leb c.args.bytes (4294967296 -
     c.args.page) && leb c.args.longest c.least-name_most.result)) ≡ b → asks_few c.args.page c.args.lanes
     c.args.bytes c.args.longest ≡ b
 asked c b e =
-    (λ i. leb c.args.lanes bucket_limit && (leb c.args.bytes (sym (most_is c.args.page (page_so (?place
-    Else-not-is_page_size))) i) && leb c.args.longest (sym c.least-name_most.ensures i))) ∙ e
+    (λ i. leb c.args.lanes bucket_limit && (leb c.args.bytes (sym (most_is c.args.page (let it : page_taken
+    c.args.page ≡ true = sym c.is_page_size.ensures ∙ c.if-not-is_page_size.false in it)) i) && leb c.args.longest
+    (sym c.least-name_most.ensures i))) ∙ e
 
 asked_so : (c : Else-not-are_few) → asks_few c.args.page c.args.lanes c.args.bytes c.args.longest ≡ true
 asked_so c =
-    ((λ i. leb c.args.lanes bucket_limit && (leb c.args.bytes (sym (most_is c.args.page (page_so (?place
-    Else-not-is_page_size))) i) && leb c.args.longest (sym c.least-name_most.ensures i))) ∙
-    (c.if-not-are_few.false))
+    ((λ i. leb c.args.lanes bucket_limit && (leb c.args.bytes (sym (most_is c.args.page (let it : page_taken
+    c.args.page ≡ true = sym c.is_page_size.ensures ∙ c.if-not-is_page_size.false in it)) i) && leb c.args.longest
+    (sym c.least-name_most.ensures i))) ∙ (c.if-not-are_few.false))
 
 few : (c : Else-not-are_few) → (c.args.lanes ≤ bucket_limit) × ((c.args.bytes ≤ arena_limit_for c.args.page) ×
     (c.args.longest ≤ name_limit_for c.args.page))
 few c =
     asked_facts c.args.page c.args.lanes c.args.bytes c.args.longest (let it : asks_few c.args.page c.args.lanes
-    c.args.bytes c.args.longest ≡ true = asked (?place After-least-name_most) true (c.if-not-are_few.false) in it)
+    c.args.bytes c.args.longest ≡ true = ((λ i. leb c.args.lanes bucket_limit && (leb c.args.bytes (sym (most_is
+    c.args.page (let it : page_taken c.args.page ≡ true = sym c.is_page_size.ensures ∙ c.if-not-is_page_size.false
+    in it)) i) && leb c.args.longest (sym c.least-name_most.ensures i))) ∙ (c.if-not-are_few.false)) in it)
 
 lent : (c : After-list_bytes_for-lists) → (b : Bool) → (leb c.capacity_for-capacity.result bucket_limit && (leb
     c.key_bytes_for-keys.result (4294967296 - c.args.page) && leb c.list_bytes_for-lists.result (4294967296 -
     c.args.page))) ≡ b → lends_few c.args.page (capacity_for c.args.lanes) (key_bytes_for c.args.page c.args.lanes
     c.args.longest) (list_bytes_for c.args.page c.args.lanes c.args.bytes) ≡ b
 lent c b e =
-    let m = sym (most_is c.args.page (page_so (?place Else-not-is_page_size))) in (λ i. leb (sym
-    c.capacity_for-capacity.ensures.0 i) bucket_limit && (leb (sym c.key_bytes_for-keys.ensures i) (m i) && leb (sym
-    c.list_bytes_for-lists.ensures i) (m i))) ∙ e
+    let m = sym (most_is c.args.page (let it : page_taken c.args.page ≡ true = sym c.is_page_size.ensures ∙
+    c.if-not-is_page_size.false in it)) in (λ i. leb (sym c.capacity_for-capacity.ensures.0 i) bucket_limit && (leb
+    (sym c.key_bytes_for-keys.ensures i) (m i) && leb (sym c.list_bytes_for-lists.ensures i) (m i))) ∙ e
 
 pub returns-then-not-is_page_size : goal.returns-then-not-is_page_size
 returns-then-not-is_page_size c =

@@ -28,8 +28,9 @@ bytes-came : (c : After-take_bytes-s) → Came (begun c.args.st) c.args.output.n
     (turned c.take_bytes-s.result c.take_bytes-s.new.output)
 bytes-came c =
     let q : length c.args.st.held ≡ held_limit = search rules in came-piece c.args.st c.args.piece.now
-    c.args.output.now _ q (let it : Takes c.args.st (length c.args.piece.now) = takes_is _ _ (is_taken (?place
-    Else-not-does_take)) in it).few c.take_bytes-s.ensures
+    c.args.output.now _ q (let it : Takes c.args.st (length c.args.piece.now) = takes_is _ _ (let it : takes
+    c.args.st (length c.args.piece.now) ≡ true = sym c.does_take.ensures ∙ c.if-not-does_take.false in it) in
+    it).few c.take_bytes-s.ensures
 
 pub returns-then-not-does_take : goal.returns-then-not-does_take
 returns-then-not-does_take c =

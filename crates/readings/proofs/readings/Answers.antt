@@ -11,16 +11,18 @@ use Rattle.readings.specs.declared.Recalled.{Recalled}
 use Rattle.readings.specs.Readings.{Out, out}
 use Rattle.readings.specs.Said.{said_recalled}
 use Rattle.readings.proofs.Found.{readings_not, readings_at_lem, fair_readings}
+use borrow.Enum.Refused.{opened}
 use Rattle.readings.proofs.readings.Goals as goal
 
 pub returns-in_default : goal.returns-in_default
 returns-in_default c =
     let m = lent c.args.table.now c.args.keys.now c.args.lists.now in
     let e = ap (λ (r : Recalled). out r c.args.output.now) c.not_found.ensures ∙ readings_not c.args.st m
-    c.args.name.now c.args.output.now _ c.lookup-looked.ensures.settled c.in_default.in_default-own.keys2 in record {
+    c.args.name.now c.args.output.now _ c.lookup-looked.ensures.settled (opened c.in_default.in_default-own.keys2)
+    in record {
       settled = e;
-      numbered = subst (λ (r : Out). permitted reading_readings (said_recalled r.answer) ≡ true) (sym
-          e) (fair_readings c.args.st m c.args.name.now c.args.output.now).numbered;
+      numbered = subst (λ (r : Out). permitted reading_readings (said_recalled r.answer) ≡
+          true) (sym e) (fair_readings c.args.st m c.args.name.now c.args.output.now).numbered;
       walked =
           c.lookup-looked.ensures.walked;
     }

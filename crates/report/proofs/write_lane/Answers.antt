@@ -17,32 +17,7 @@ use Rattle.report.proofs.Written.{Put, put_first, put_next, put-length, standing
 use Rattle.report.proofs.Written.{key_size, lane-own, lane-lines}
 use borrow.Author.Rules.{rules}
 use Rattle.report.proofs.write_lane.Goals as goal
-use Rattle.report.proofs.write_lane.Goals.{After-copy_in, After-output-1, After-output-2-1, After-put_number_line-b, After-write_bytes, Start}
-
--- ---- how long the pieces are
-
-name-line : (c : tie.Start) → length (line term_word (hex (key c))) ≡ 6 + 2 * c.args.name
-name-line c =
-    omega (
-      arith,
-      line-long term_word (hex (key c)),
-      hex-length (key c),
-      key_size c.args.keys.now c.args.at c.args.name (key_in c),
-    )
-
--- ---- what is written after each
-
-named : (c : tie.After-put-hex-line)
-    → Put c.before.before.before.before.before.before.before.before.args.p
-    c.before.before.before.before.before.before.before.before.args.output.now
-    c.put-hex-line.new.0 (line term_word
-    (hex (key c.before.before.before.before.before.before.before.before))) c.put-hex-line.result
-named c = put_first _ _ _ _ _ c.put-hex-line.ensures.0 c.put-hex-line.ensures.1
-
--- ---- the needs
-
-add-from : tie.Need-overflow-add-from
-add-from c = search rules
+use Rattle.report.proofs.write_lane.Goals.{After-copy_in, After-put_hex_line-a, After-put_number_line-b, After-write_bytes, Start}
 
 output_long : (c : Start) → length c.args.output.now ≤ 18446744073709551615
 output_long c = omega arith
@@ -52,6 +27,21 @@ key_in c =
     let a = c.args in standing_key a.st (lent a.table.now a.keys.now a.lists.now) a.at a.n c.requires.0 a.name
     c.requires.1.0
 
+-- ---- how long the pieces are
+name-line : (c : Start) → length (line term_word (hex (take (c.args.at + 2 + c.args.name - (c.args.at + 2)) (drop
+    (c.args.at + 2) c.args.keys.now)))) ≡ 6 + 2 * c.args.name
+name-line c =
+    omega (
+      arith,
+      line-long term_word (hex (take (c.args.at + 2 + c.args.name - (c.args.at + 2)) (drop (c.args.at +
+          2) c.args.keys.now))),
+      hex-length (take (c.args.at + 2 + c.args.name - (c.args.at + 2)) (drop (c.args.at + 2)
+          c.args.keys.now)),
+      key_size c.args.keys.now c.args.at c.args.name (let it : c.args.at + 2 + c.args.name ≤ length
+          c.args.keys.now = let a = c.args in standing_key a.st (lent a.table.now a.keys.now a.lists.now) a.at a.n
+          c.requires.0 a.name c.requires.1.0 in it),
+    )
+
 two_lines : (c : Start) → length (line term_word (hex (take (c.args.at + 2 + c.args.name - (c.args.at + 2)) (drop
     (c.args.at + 2) c.args.keys.now))) ++ line len_word (decimal c.args.n)) ≡ 11 + 2 * c.args.name + length (decimal
     c.args.n)
@@ -60,7 +50,18 @@ two_lines c =
       arith,
       length-append (line term_word (hex (take (c.args.at + 2 + c.args.name - (c.args.at + 2)) (drop
           (c.args.at + 2) c.args.keys.now)))) (line len_word (decimal c.args.n)),
-      name-line c,
+      (let it : length (line term_word (hex
+          (take (c.args.at + 2 + c.args.name - (c.args.at + 2)) (drop (c.args.at + 2) c.args.keys.now)))) ≡ 6 + 2 *
+          c.args.name = omega (
+            arith,
+            line-long term_word (hex (take (c.args.at + 2 + c.args.name - (c.args.at + 2))
+                (drop (c.args.at + 2) c.args.keys.now))),
+            hex-length (take (c.args.at + 2 + c.args.name - (c.args.at + 2)) (drop
+                (c.args.at + 2) c.args.keys.now)),
+            key_size c.args.keys.now c.args.at c.args.name (let it : c.args.at + 2 +
+                c.args.name ≤ length c.args.keys.now = let a = c.args in standing_key a.st (lent a.table.now a.keys.now
+                a.lists.now) a.at a.n c.requires.0 a.name c.requires.1.0 in it),
+          ) in it),
       line-long len_word (decimal
           c.args.n),
     )
@@ -79,10 +80,19 @@ word-behind c =
             arith,
             length-append (line term_word (hex (take (c.args.at + 2 + c.args.name - (c.args.at + 2)) (drop (c.args.at + 2)
                 c.args.keys.now)))) (line len_word (decimal c.args.n)),
-            name-line c,
+            (let it : length (line term_word (hex (take (c.args.at +
+                2 + c.args.name - (c.args.at + 2)) (drop (c.args.at + 2) c.args.keys.now)))) ≡ 6 + 2 * c.args.name = omega (
+                  arith,
+                  line-long term_word (hex (take (c.args.at + 2 + c.args.name - (c.args.at + 2)) (drop (c.args.at + 2)
+                      c.args.keys.now))),
+                  hex-length (take (c.args.at + 2 + c.args.name - (c.args.at + 2)) (drop (c.args.at + 2)
+                      c.args.keys.now)),
+                  key_size c.args.keys.now c.args.at c.args.name (let it : c.args.at + 2 + c.args.name ≤ length
+                      c.args.keys.now = let a = c.args in standing_key a.st (lent a.table.now a.keys.now a.lists.now) a.at a.n
+                      c.requires.0 a.name c.requires.1.0 in it),
+                ) in it),
             line-long len_word (decimal c.args.n),
-          ) in
-          it),
+          ) in it),
     )
 
 bytes-behind : (c : Start) → length ((line term_word (hex (take (c.args.at + 2 + c.args.name - (c.args.at + 2))
@@ -101,20 +111,44 @@ bytes-behind c =
             arith,
             length-append (line term_word (hex (take (c.args.at + 2 + c.args.name - (c.args.at + 2)) (drop (c.args.at + 2)
                 c.args.keys.now))) ++ line len_word (decimal c.args.n)) bytes_word,
-            two_lines c,
+            (let it : length (line term_word (hex (take
+                (c.args.at + 2 + c.args.name - (c.args.at + 2)) (drop (c.args.at + 2) c.args.keys.now))) ++ line len_word
+                (decimal c.args.n)) ≡ 11 + 2 * c.args.name + length (decimal c.args.n) = omega (
+                  arith,
+                  length-append (line
+                      term_word (hex (take (c.args.at + 2 + c.args.name - (c.args.at + 2)) (drop (c.args.at + 2) c.args.keys.now))))
+                      (line len_word (decimal c.args.n)),
+                  (let it : length (line term_word (hex (take (c.args.at + 2 + c.args.name -
+                      (c.args.at + 2)) (drop (c.args.at + 2) c.args.keys.now)))) ≡ 6 + 2 * c.args.name = omega (
+                        arith,
+                        line-long
+                            term_word (hex (take (c.args.at + 2 + c.args.name - (c.args.at + 2)) (drop (c.args.at + 2) c.args.keys.now))),
+                        hex-length (take (c.args.at + 2 + c.args.name - (c.args.at + 2)) (drop (c.args.at + 2) c.args.keys.now)),
+                        key_size c.args.keys.now c.args.at c.args.name (key_in c),
+                      ) in it),
+                  line-long len_word (decimal c.args.n),
+                ) in
+                it),
           ) in it),
-      hex-length (lane_bytes
-          c.args.lists.now (header_of c.args.keys.now c.args.at)),
-      standing-lane a.st (lent a.table.now a.keys.now
-          a.lists.now) a.at a.n c.requires.0,
+      hex-length (lane_bytes c.args.lists.now (header_of c.args.keys.now c.args.at)),
+      standing-lane a.st
+          (lent a.table.now a.keys.now a.lists.now) a.at a.n c.requires.0,
     )
+
+-- ---- what is written after each
+named : (c : After-put_hex_line-a) → Put c.args.p c.args.output.now c.put_hex_line-a.new.output (line term_word (hex
+    (take (c.args.at + 2 + c.args.name - (c.args.at + 2)) (drop (c.args.at + 2) c.args.keys.now))))
+    c.put_hex_line-a.result
+named c = put_first _ _ _ _ _ c.put_hex_line-a.ensures.0 c.put_hex_line-a.ensures.1
 
 counted : (c : After-put_number_line-b) → Put c.args.p c.args.output.now c.put_number_line-b.new.output (line
     term_word (hex (take (c.args.at + 2 + c.args.name - (c.args.at + 2)) (drop (c.args.at + 2) c.args.keys.now))) ++
     line len_word (decimal c.args.n)) c.put_number_line-b.result
 counted c =
-    put_next (named (?place After-output-1)) _ (line len_word (decimal c.args.n)) _ c.put_number_line-b.ensures.0
-    c.put_number_line-b.ensures.1
+    put_next (let it : Put c.args.p c.args.output.now c.put_hex_line-a.new.output (line term_word (hex (take
+    (c.args.at + 2 + c.args.name - (c.args.at + 2)) (drop (c.args.at + 2) c.args.keys.now))))
+    c.put_hex_line-a.result = put_first _ _ _ _ _ c.put_hex_line-a.ensures.0 c.put_hex_line-a.ensures.1 in it) _
+    (line len_word (decimal c.args.n)) _ c.put_number_line-b.ensures.0 c.put_number_line-b.ensures.1
 
 worded : (c : After-copy_in) → Put c.args.p c.args.output.now c.copy_in.new.mem ((line term_word (hex (take
     (c.args.at + 2 + c.args.name - (c.args.at + 2)) (drop (c.args.at + 2) c.args.keys.now))) ++ line len_word
@@ -122,9 +156,11 @@ worded : (c : After-copy_in) → Put c.args.p c.args.output.now c.copy_in.new.me
 worded c =
     put_next (let it : Put c.args.p c.args.output.now c.put_number_line-b.new.output (line term_word (hex (take
     (c.args.at + 2 + c.args.name - (c.args.at + 2)) (drop (c.args.at + 2) c.args.keys.now))) ++ line len_word
-    (decimal c.args.n)) c.put_number_line-b.result = put_next (named (?place After-output-1)) _ (line len_word
-    (decimal c.args.n)) _ c.put_number_line-b.ensures.0 c.put_number_line-b.ensures.1 in it) _ bytes_word _
-    c.copy_in.ensures refl
+    (decimal c.args.n)) c.put_number_line-b.result = put_next (let it : Put c.args.p c.args.output.now
+    c.put_hex_line-a.new.output (line term_word (hex (take (c.args.at + 2 + c.args.name - (c.args.at + 2)) (drop
+    (c.args.at + 2) c.args.keys.now)))) c.put_hex_line-a.result = put_first _ _ _ _ _ c.put_hex_line-a.ensures.0
+    c.put_hex_line-a.ensures.1 in it) _ (line len_word (decimal c.args.n)) _ c.put_number_line-b.ensures.0
+    c.put_number_line-b.ensures.1 in it) _ bytes_word _ c.copy_in.ensures refl
 
 all-bytes : (c : After-write_bytes) → Put c.args.p c.args.output.now c.write_bytes.new.output ((line term_word (hex
     (take (c.args.at + 2 + c.args.name - (c.args.at + 2)) (drop (c.args.at + 2) c.args.keys.now))) ++ line len_word
@@ -133,22 +169,26 @@ all-bytes : (c : After-write_bytes) → Put c.args.p c.args.output.now c.write_b
 all-bytes c =
     let a = c.args in put_next (let it : Put c.args.p c.args.output.now c.copy_in.new.mem ((line term_word (hex
     (take (c.args.at + 2 + c.args.name - (c.args.at + 2)) (drop (c.args.at + 2) c.args.keys.now))) ++ line len_word
-    (decimal c.args.n)) ++ bytes_word) (c.put_number_line-b.result + 6) = put_next (counted (?place
-    After-output-2-1)) _ bytes_word _ c.copy_in.ensures refl in it) _ (hex (lane_bytes c.args.lists.now (header_of
-    c.args.keys.now c.args.at))) _ c.write_bytes.ensures (omega (
+    (decimal c.args.n)) ++ bytes_word) (c.put_number_line-b.result + 6) = put_next (let it : Put c.args.p
+    c.args.output.now c.put_number_line-b.new.output (line term_word (hex (take (c.args.at + 2 + c.args.name -
+    (c.args.at + 2)) (drop (c.args.at + 2) c.args.keys.now))) ++ line len_word (decimal c.args.n))
+    c.put_number_line-b.result = put_next (let it : Put c.args.p c.args.output.now c.put_hex_line-a.new.output (line
+    term_word (hex (take (c.args.at + 2 + c.args.name - (c.args.at + 2)) (drop (c.args.at + 2) c.args.keys.now))))
+    c.put_hex_line-a.result = put_first _ _ _ _ _ c.put_hex_line-a.ensures.0 c.put_hex_line-a.ensures.1 in it) _
+    (line len_word (decimal c.args.n)) _ c.put_number_line-b.ensures.0 c.put_number_line-b.ensures.1 in it) _
+    bytes_word _ c.copy_in.ensures refl in it) _ (hex (lane_bytes c.args.lists.now (header_of c.args.keys.now
+    c.args.at))) _ c.write_bytes.ensures (omega (
       arith,
-      hex-length (lane_bytes c.args.lists.now
-          (header_of c.args.keys.now c.args.at)),
-      standing-lane a.st (lent a.table.now a.keys.now a.lists.now) a.at a.n
-          c.requires.0,
+      hex-length (lane_bytes c.args.lists.now (header_of
+          c.args.keys.now c.args.at)),
+      standing-lane a.st (lent a.table.now a.keys.now a.lists.now) a.at a.n c.requires.0,
     ))
 
 pub slice_bounds-put_hex_line-end-2 : goal.slice_bounds-put_hex_line-end-2
 slice_bounds-put_hex_line-end-2 c = omega (arith, key_in (goal.at.slice_bounds-put_hex_line-end-2 c).Start)
 
 pub put_hex_line-a-requires : goal.put_hex_line-a-requires
-put_hex_line-a-requires c =
-    omega (arith, c.requires.1.1.1, name-line (goal.at.put_hex_line-a-requires c).After-shared_slice_known-1)
+put_hex_line-a-requires c = omega (arith, c.requires.1.1.1, name-line (goal.at.put_hex_line-a-requires c).Start)
 
 pub put_number_line-b-requires : goal.put_number_line-b-requires
 put_number_line-b-requires c = (
@@ -157,10 +197,11 @@ put_number_line-b-requires c = (
     arith,
     c.requires.1.1.1,
     (named (goal.at.put_number_line-b-requires
-        c).After-output-1).place,
-    name-line (goal.at.put_number_line-b-requires c).After-shared_slice_known-2-1,
-    line-long len_word (decimal c.args.n),
-    put-length (named (goal.at.put_number_line-b-requires c).After-output-1),
+        c).After-put_hex_line-a).place,
+    name-line (goal.at.put_number_line-b-requires c).Start,
+    line-long len_word
+        (decimal c.args.n),
+    put-length (named (goal.at.put_number_line-b-requires c).After-put_hex_line-a),
   ),
 )
 

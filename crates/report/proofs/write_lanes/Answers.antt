@@ -12,6 +12,7 @@ use Rattle.report_lanes.specs.Lanes.{gather_from}
 use Rattle.report_lanes.specs.Measure.{Small}
 use Rattle.report_lanes.proofs.Measuring.{not_lane, none_left, none_more}
 use Rattle.report.proofs.Written.{Lanes, lanes_start, lanes-length, lane-stands, lane_room, lanes_on, lanes_over}
+use borrow.Enum.Refused.{opened}
 use Rattle.report.proofs.write_lanes.Goals as goal
 
 pub loop-left-init : goal.loop-left-init
@@ -29,7 +30,7 @@ pub returns-in_default : goal.returns-in_default
 returns-in_default c =
     lanes_over c.loop-left.invariant (none_left c.args.st (lent c.args.table.now c.args.keys.now c.args.lists.now)
     c.loop-left.left c.loop-left.index _ c.loop-left.invariant.rest (omega arith) (sym c.next_lane-r.ensures.0)
-    (not_lane _ c.in_default.in_default-own.keys2) c.loop-left.invariant.rest_is)
+    (not_lane _ (opened c.in_default.in_default-own.keys2)) c.loop-left.invariant.rest_is)
 
 pub write_lane-p-requires : goal.write_lane-p-requires
 write_lane-p-requires c =

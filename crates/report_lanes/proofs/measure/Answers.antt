@@ -11,6 +11,7 @@ use Rattle.report_lanes.specs.declared.NextLane.{NextLane}
 use Rattle.report_lanes.specs.Measure.{Small, Few}
 use Rattle.report_lanes.proofs.Measuring.{Measuring, measuring_starts, measuring-few, measuring-on}
 use Rattle.report_lanes.proofs.Measuring.{measuring_over, measuring-ends, not_lane, few_sums, few_over}
+use borrow.Enum.Refused.{opened}
 use Rattle.report_lanes.proofs.measure.Goals as goal
 
 pub loop-left-init : goal.loop-left-init
@@ -22,7 +23,7 @@ next_lane-r-requires c = c.requires
 pub returns-in_default : goal.returns-in_default
 returns-in_default c = (
   c.over.ensures ∙ measuring_over c.loop-left.invariant (omega arith) _ (sym c.next_lane-r.ensures.0) (not_lane
-      _ c.in_default.in_default-own.keys2),
+      _ (opened c.in_default.in_default-own.keys2)),
   subst Few (sym c.over.ensures) (few_over c.next_lane-r.result
       c.loop-left.lanes c.loop-left.bytes c.loop-left.text (few_sums c.loop-left.invariant c.requires)),
 )

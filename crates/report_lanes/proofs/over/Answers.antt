@@ -5,10 +5,12 @@ use Rattle.report_lanes.specs.declared.NextLane.{NextLane}
 use Rattle.report_lanes.specs.Measure.{over_of}
 use Rattle.report_lanes.proofs.Measuring.{over_sums}
 use borrow.Author.Rules.{rules}
+use borrow.Enum.Refused.{opened}
 use Rattle.report_lanes.proofs.over.Goals as goal
 
 pub returns-in_default : goal.returns-in_default
-returns-in_default c = let a = c.args in over_sums a.r a.lanes a.bytes a.text c.in_default.in_default-own.keys2
+returns-in_default c =
+    let a = c.args in over_sums a.r a.lanes a.bytes a.text (opened c.in_default.in_default-own.keys2)
 
 pub returns : goal.returns
 returns c = sym (ap (λ (x : NextLane). over_of x c.args.lanes c.args.bytes c.args.text) c.in-Halt.is)

@@ -17,6 +17,7 @@ use Rattle.expull_header.specs.Header.{fresh, sound_header}
 use Rattle.expull_header.specs.declared.Header.{Header}
 use Rattle.memory_arena.proofs.Laws.{sensible_facts, room_in}
 use Rattle.limits.specs.Limits.{name_limit, record_extra, record-fits, name-within}
+use borrow.Enum.Refused.{opened}
 use Rattle.store_append.proofs.append_new.Goals as goal
 use Rattle.store_append.proofs.append_new.Goals.{After-blocks_fit, Else-is_crowded, In-At, Start}
 
@@ -81,7 +82,7 @@ pub returns-in_default : goal.returns-in_default
 returns-in_default c =
     let m = lent c.args.table.now c.args.keys.now c.args.lists.now in sym (new-room c.args.st m c.args.name.now
     c.args.bytes.now (roomy (goal.at.returns-in_default c).Else-is_crowded) _ (sym c.find_room-room.ensures) ∙
-    new_6_told c.args.st m c.args.name.now c.args.bytes.now _ c.in_default.in_default-own.keys2)
+    new_6_told c.args.st m c.args.name.now c.args.bytes.now _ (opened c.in_default.in_default-own.keys2))
 
 pub blocks_fit-requires : goal.blocks_fit-requires
 blocks_fit-requires c = (

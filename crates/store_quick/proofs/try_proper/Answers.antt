@@ -16,7 +16,7 @@ use Rattle.store_look.proofs.Found.{walk-held}
 use Rattle.store_append.proofs.Cases.{append-met, met-standing}
 use borrow.Author.Rules.{rules}
 use Rattle.store_quick.proofs.try_proper.Goals as goal
-use Rattle.store_quick.proofs.try_proper.Goals.{After-find-w, After-slice_known-4-1, In-Standing, In-Standing-1, Start}
+use Rattle.store_quick.proofs.try_proper.Goals.{After-find-w, After-slice_known-4-1, In-Standing, Start}
 
 whole : (s : Start) → Whole s.args.st (length s.args.table.now) (length s.args.keys.now) (length s.args.lists.now)
 whole s =
@@ -65,9 +65,12 @@ came c b e =
     let o : append_of a.st m a.name.now a.bytes.now ≡ append_standing a.st m c.in-Standing.at a.bytes.now =
     append-met a.st m a.name.now a.bytes.now _ c.requires.0 c.requires.1 (let it : (walk_of c.args.st (lent
     c.args.table.now c.args.keys.now c.args.lists.now) c.args.name.now).met ≡ Standing c.in-Standing.at = sym (ap (λ
-    (w : Walk). w.met) (walk_is (?place In-Standing-1))) ∙ c.in-Standing.is in it) ∙ met-standing a.st m a.name.now
-    a.bytes.now c.in-Standing.at in subst (λ (x : Out). QuickOf b a.st m after x) (sym o) (subst (λ (x : Bool).
-    QuickOf x a.st m after (append_standing a.st m c.in-Standing.at a.bytes.now)) e c.quick_standing.ensures)
+    (w : Walk). w.met) (let it : c.find-w.result ≡ walk_of c.args.st (lent c.args.table.now c.args.keys.now
+    c.args.lists.now) c.args.name.now = walk-found c.args.st (lent c.args.table.now c.args.keys.now
+    c.args.lists.now) c.args.name.now _ _ _ c.find-w.ensures c.first_bucket-first.ensures c.murmurhash2-hash.ensures
+    in it)) ∙ c.in-Standing.is in it) ∙ met-standing a.st m a.name.now a.bytes.now c.in-Standing.at in subst (λ (x :
+    Out). QuickOf b a.st m after x) (sym o) (subst (λ (x : Bool). QuickOf x a.st m after (append_standing a.st m
+    c.in-Standing.at a.bytes.now)) e c.quick_standing.ensures)
 
 pub first_bucket-first-requires : goal.first_bucket-first-requires
 first_bucket-first-requires c = omega (arith, whole (goal.at.first_bucket-first-requires c).Start)

@@ -3,6 +3,7 @@ use mathlib.Core.Path.{sym, ◌∙◌}
 use borrow.Author.Rules.{rules}
 use Rattle.spans.specs.Span.{read_span}
 use Rattle.flat_store.proofs.Finds.{Sized, sized, read_not, read_8, read_fits, read_done}
+use borrow.Enum.Refused.{opened}
 use Rattle.flat_store.proofs.look.read.Goals as goal
 use Rattle.flat_store.proofs.look.read.Goals.{In-Bytes}
 
@@ -13,8 +14,8 @@ stood c = let a = c.args in sized a.buffer.now a.used a.name.now c.in-Bytes.n (s
 pub returns-in_default : goal.returns-in_default
 returns-in_default c =
     let a = c.args in
-    let it = read_not a.buffer.now a.used a.name.now a.output.now c.find-f.result c.find-f.ensures
-    c.in_default.in_default-own.keys2 c.measured.result c.measured.ensures in record {
+    let it = read_not a.buffer.now a.used a.name.now a.output.now c.find-f.result c.find-f.ensures (opened
+    c.in_default.in_default-own.keys2) c.measured.result c.measured.ensures in record {
       settled = it.0;
       numbered =
           it.1;

@@ -8,6 +8,7 @@ use Rattle.store_state.proofs.Whole.{Whole, whole_facts, find_asks}
 use Rattle.store_look.proofs.Walked.{walk-found}
 use Rattle.store_look.proofs.Found.{lookup-met, lookup-held, length_not, length-at}
 use Rattle.store_look.specs.Look.{Lent, lent, lookup_of}
+use borrow.Enum.Refused.{opened}
 use Rattle.store_look.proofs.lane.length_proper.Goals as goal
 use Rattle.store_look.proofs.lane.length_proper.Goals.{After-on_met-found, Start}
 
@@ -31,7 +32,8 @@ find-w-requires c = find_asks _ _ _ _ (whole (goal.at.find-w-requires c).Start) 
 pub returns-in_default : goal.returns-in_default
 returns-in_default c =
     c.not_found.ensures ∙ length_not c.args.st (lent c.args.table.now c.args.keys.now c.args.lists.now)
-    c.args.name.now _ (found_is (goal.at.returns-in_default c).After-on_met-found) c.in_default.in_default-own.keys2
+    c.args.name.now _ (found_is (goal.at.returns-in_default c).After-on_met-found) (opened
+    c.in_default.in_default-own.keys2)
 
 pub length_at-requires : goal.length_at-requires
 length_at-requires c =

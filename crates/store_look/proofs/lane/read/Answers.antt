@@ -10,17 +10,20 @@ use Rattle.store_look.specs.Look.{Read, lent, reading}
 use Rattle.store_look.specs.Said.{said_answer}
 use Rattle.store_look.specs.declared.Answer.{Answer}
 use Rattle.limits.specs.Refusals.{reading_lane, permitted}
+use borrow.Enum.Refused.{opened}
 use Rattle.store_look.proofs.lane.read.Goals as goal
 
 pub returns-in_default : goal.returns-in_default
 returns-in_default c =
     let m = lent c.args.table.now c.args.keys.now c.args.lists.now in
     let e = ap (λ (r : Answer). reading r c.args.output.now) c.not_found.ensures ∙ read_not c.args.st m
-    c.args.name.now c.args.output.now _ c.lookup-looked.ensures.settled c.in_default.in_default-own.keys2 in record {
+    c.args.name.now c.args.output.now _ c.lookup-looked.ensures.settled (opened c.in_default.in_default-own.keys2)
+    in record {
       settled = e;
-      numbered = subst (λ (r : Read). permitted reading_lane (said_answer r.answer) ≡ true) (sym e)
-          (fair-read c.args.st m c.args.name.now c.args.output.now).numbered;
-      walked = c.lookup-looked.ensures.walked;
+      numbered = subst (λ (r : Read). permitted reading_lane (said_answer r.answer) ≡ true)
+          (sym e) (fair-read c.args.st m c.args.name.now c.args.output.now).numbered;
+      walked =
+          c.lookup-looked.ensures.walked;
     }
 
 pub read_at-requires : goal.read_at-requires
