@@ -91,10 +91,10 @@ module _ (buffer : List ℕ) (used : ℕ) (name : List ℕ) where
       go absent = refl
       go (refuses n) = refl
 
-  pub length_from : (f : Found) → f ≡ found_by (held_of buffer used name) → (r : Answer) → r ≡ length_from f
+  pub length_from_lem : (f : Found) → f ≡ found_by (held_of buffer used name) → (r : Answer) → r ≡ length_from f
       → (r ≡ length_of buffer used name) × (permitted flat_measuring (said_answer r) ≡ true)
   unfolding length_of
-  length_from f e r q =
+  length_from_lem f e r q =
       let same : r ≡ length_of buffer used name = q ∙ ap length_from e ∙ go (held_of buffer used name) in
       (same, ap (λ (x : Answer). permitted flat_measuring (said_answer x)) same ∙ fair-length buffer used name)
     where

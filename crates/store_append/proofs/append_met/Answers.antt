@@ -13,12 +13,14 @@ use Rattle.store_state.specs.declared.Name.TheVariants.{Proper}
 use Rattle.shared_arena_hashmap.specs.declared.Met.{Met}
 use Rattle.shared_arena_hashmap.specs.declared.Walk.{Walk}
 use Rattle.store_append.proofs.append_met.Goals as goal
-use Rattle.store_append.proofs.append_met.Goals.{After-shared_slice_known-2-1, Start}
+use Rattle.store_append.proofs.append_met.Goals.{After-shared_slice_known-2-1}
 
 on-met : (c : After-shared_slice_known-2-1) → (x : Met) → c.args.met ≡ x → (on_met c.args.met c.args.st (lent
     c.args.table.now c.args.keys.now c.args.lists.now) c.args.name.now c.args.bytes.now) ≡ (on_met x c.args.st (lent
     c.args.table.now c.args.keys.now c.args.lists.now) c.args.name.now c.args.bytes.now)
-on-met c x e = ap (goes_on (?place Start)) e
+on-met c x e =
+    ap (λ (y : Met). on_met y c.args.st (lent c.args.table.now c.args.keys.now c.args.lists.now) c.args.name.now
+    c.args.bytes.now) e
 
 -- what the lookup hands on, by what it met
 looked_as : (c : After-shared_slice_known-2-1) → (x : Met) → c.args.met ≡ x → Looked c.args.st (lent
