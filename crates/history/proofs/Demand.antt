@@ -53,7 +53,7 @@ use Rattle.history.proofs.Frames.{leaves_alone}
 due-declines : (w : World) (name bytes : List ℕ) (n : ℕ) → Declines w name bytes n → AnswersDue w name bytes n
 due-declines w name bytes n D = record {
   said = ap (λ (o : Out). appended_number o.answer) D.said;
-  accepted = λ z. absurd (D.Some-number z);
+  accepted = λ z. absurd (D.some_number z);
   refused = λ f. D.said;
 }
 

@@ -115,7 +115,7 @@ module _ {w : World} {G : Ghosts} (S : Sound w G) (name bytes : List ℕ) (w' : 
       ((header_of w.memory.keys (T.ghosts.place name)).remaining + link_size) q n → Kept m m' q n
   lists-standing M q n u d =
       let e : header_of w.memory.keys (T.ghosts.place name) ≡ L.header =
-      ap (header_of w.memory.keys) (L.Place-kept M) ∙ header_is S name M ∙ sym (L.list_standing M).0 in
+      ap (header_of w.memory.keys) (L.place_kept M) ∙ header_is S name M ∙ sym (L.list_standing M).0 in
       L.list.rest q n u (subst (λ (h : Header). Apart h.tail (h.remaining + link_size) q n) e d)
 
   lists-new : (Stands G name → ⊥) → (q n : ℕ) → q + n ≤ used_end w.state.list_arena → Kept m m' q n
@@ -183,7 +183,7 @@ module _ {w : World} {G : Ghosts} (S : Sound w G) (name bytes : List ℕ) (w' : 
     keys-standing e q n d =
         let M = joined-stands o s e in
         L.keys-standing M q n
-        (subst (λ (at : ℕ). Apart (value_place (keys_in w) at) value_size q n) (L.Place-kept M) d)
+        (subst (λ (at : ℕ). Apart (value_place (keys_in w) at) value_size q n) (L.place_kept M) d)
 
     keys-new : is_joined o ≡ false → (q n : ℕ) → Apart at (length name + record_extra) q n
         → Kept (keys_in w) (keys_in w') q n
@@ -257,7 +257,7 @@ module _ {w : World} {G : Ghosts} (S : Sound w G) (name bytes : List ℕ) (w' : 
       placed = lookup_finds T.sound name T.new;
       stood_there = λ e.
           let M = joined-stands o s e in
-          lookup_finds S name M ∙ ap At (sym (L.Place-kept M));
+          lookup_finds S name M ∙ ap At (sym (L.place_kept M));
       keys_room = λ e. L.keys_room (joined-new o s e);
       keys_above = λ e. L.keys_above (joined-new o s e);
       keys_used = λ e. L.keys_used (joined-stands o s e);

@@ -249,7 +249,7 @@ unfolding play log_of joined_in names_in
 played {w} {G} S [] = record { ghosts = G; sound = S; says = λ j x s. s; counts = λ ns c. c; stays = stays_same G }
 played {w} {G} S (c ∷ calls) =
     let P = call_step S c in
-    let Q = played P.sound calls in
+    let Q = played {w = after c w} {G = P.ghosts} P.sound calls in
     let later : List Entry = log_of calls (after c w) in
     record {
       ghosts = Q.ghosts;

@@ -55,5 +55,5 @@ returns c =
     let it = told c.args.st (lent c.args.table.now c.args.keys.now c.args.lists.now) c.args.marks.now _ _
     (check_done c.args.st (lent c.args.table.now c.args.keys.now c.args.lists.now) c.args.marks.now (whole
     (goal.at.returns c).Else-not-is_whole_state) (omega (arith, c.if-marks-needed.false)) c.clear.new.marks
-    c.go_over-answer.new.marks c.clear-2.new.marks c.go_over-answer.result c.clear.ensures c.go_over-answer.ensures
-    c.go_over-answer.auto.marks c.clear-2.ensures) in record { settled = it.0; numbered = it.1 }
+    c.go_over-answer.new.marks c.clear-2.new.marks c.go_over-answer.result c.clear.ensures.settled c.go_over-answer.ensures
+    c.go_over-answer.auto.marks c.clear-2.ensures.settled) in record { settled = it.0; numbered = it.1 }

@@ -62,7 +62,7 @@ held c =
     (get_or c.args.table.now (2 * (c.first_bucket-first.result + c.args.i)) 0) ≡ record_in c.args.st (lent
     c.args.table.now c.args.keys.now c.args.lists.now) c.args.i = record_code c.args.st (lent c.args.table.now
     c.args.keys.now c.args.lists.now) c.first_bucket-first.result c.args.i c.first_bucket-first.ensures in it)) ∙
-    sym c.judge-fault.ensures ∙ c.if-fault-ne0.false) in it).well-formed)
+    sym c.judge-fault.ensures ∙ c.if-fault-ne0.false) in it).good)
 
 headed : (c : In-Sound) → Headed c.args.keys.now (get_or c.args.table.now (2 * (c.first_bucket-first.result +
     c.args.i)) 0) c.in-Sound.h

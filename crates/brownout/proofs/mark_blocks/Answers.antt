@@ -9,7 +9,7 @@ use Rattle.limits.specs.Limits.{link_size}
 use Rattle.marks.specs.Bits.{out as marks_out, mark_span}
 use borrow.Author.Rules.{rules}
 use Rattle.brownout.proofs.mark_blocks.Goals as goal
-use Rattle.brownout.proofs.mark_blocks.Goals.{After-get_block_size-size, After-mark_span-met, At-loop-k}
+use Rattle.brownout.proofs.mark_blocks.Goals.{After-get_block_size-size, After-mark_span-met}
 
 in_pages : (c : After-get_block_size-size) → c.loop-k.place + (c.get_block_size-size.result + link_size) ≤ length
     c.args.lists.now
@@ -22,8 +22,7 @@ spanned : (c : After-mark_span-met) → (b : Bool) → c.mark_span-met.result �
     c.mark_span-met.new.marks ≡ mark_span c.loop-k.marks (c.args.base + c.loop-k.place)
     (c.get_block_size-size.result + link_size)
 spanned c b e =
-    subst (λ (x : Bool). marks_out x c.mark_span-met.new.marks ≡ mark_span c.loop-k.marks (c.args.base + ((?place
-    At-loop-k)).loop.place) (c.get_block_size-size.result + link_size)) e c.mark_span-met.ensures
+    subst (λ (x : Bool). marks_out x c.mark_span-met.new.marks ≡ mark_span c.loop-k.marks (c.args.base + c.loop-k.place) (c.get_block_size-size.result + link_size)) e c.mark_span-met.ensures
 
 pub loop-k-init : goal.loop-k-init
 loop-k-init c = marking-begun c.args.marks.now c.args.base c.args.lists.now c.args.head c.args.count

@@ -26,13 +26,10 @@ append_front-requires c = vint_room _ _ c.serialize_vint_u32-v.ensures
 pub returns : goal.returns
 returns c =
     let m = lent c.args.table.now c.args.keys.now c.args.lists.now in
-    let it = (
-      c.append_front.ensures.settled ∙ ap (λ (l : List ℕ). append_of c.args.st m c.args.name.now l)
+    record {
+      settled = c.append_front.ensures.settled ∙ ap (λ (l : List ℕ). append_of c.args.st m c.args.name.now l)
           (vint_front _ _ c.serialize_vint_u32-v.ensures ∙ ap write_vint (is_stored (goal.at.returns c).After-encode)) ∙
-          sym (reading_is c.args.st m c.args.name.now c.args.last c.args.new),
-      c.append_front.ensures.1,
-    ) in record {
-      settled = it.0;
-      numbered = it.1.0;
-      walked = it.1.1;
+          sym (reading_is c.args.st m c.args.name.now c.args.last c.args.new);
+      numbered = c.append_front.ensures.numbered;
+      walked = c.append_front.ensures.walked;
     }

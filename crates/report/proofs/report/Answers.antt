@@ -16,7 +16,6 @@ use Rattle.report.specs.Write.{lanes_met}
 use Rattle.report_lanes.proofs.Measuring.{decimal_most}
 use Rattle.report.proofs.Written.{head-long}
 use Rattle.report.proofs.Reporting.{report_2, report_halted, sums, head_size, report_8, report_done, told}
-use borrow.Enum.Refused.{opened}
 use Rattle.report.proofs.report.Goals as goal
 
 pub returns-then-not-is_whole_state : goal.returns-then-not-is_whole_state
@@ -33,7 +32,7 @@ returns-in_default c =
     let m = lent c.args.table.now c.args.keys.now c.args.lists.now in
     let it = told c.args.st m c.args.output.now _ _ (ap (λ (r : Reported). out r c.args.output.now) c.halted.ensures
     ∙ report_halted c.args.st m c.args.output.now (sym c.is_whole_state.ensures ∙ c.if-not-is_whole_state.false) _
-    c.measure-m.ensures.0 (opened c.in_default.in_default-own.keys2)) in record { settled = it.0; numbered = it.1 }
+    c.measure-m.ensures.0 c.in_default.in_default-own.keys2) in record { settled = it.0; numbered = it.1 }
 
 pub digit_count-k-requires : goal.digit_count-k-requires
 digit_count-k-requires c = (subst Few c.in-Sums.is c.measure-m.ensures.1).0
