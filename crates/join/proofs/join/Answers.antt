@@ -28,7 +28,7 @@ returns-then-not-is_whole_state-2 c =
     }
 
 pub join_lanes-requires : goal.join_lanes-requires
-join_lanes-requires c = sym c.is_whole_state-2.ensures ∙ not-false _ c.if-not-is_whole_state-2.left
+join_lanes-requires c = sym c.is_whole_state-2.ensures ∙ c.if-not-is_whole_state-2.false
 
 pub returns : goal.returns
 returns c =
@@ -36,5 +36,4 @@ returns c =
     c.args.table2.now c.args.keys2.now c.args.lists2.now)) c.args.scratch.now _ (c.join_lanes.ensures ∙ sym (join_on
     (store c.args.st (lent c.args.table.now c.args.keys.now c.args.lists.now)) (store c.args.st2 (lent
     c.args.table2.now c.args.keys2.now c.args.lists2.now)) c.args.scratch.now (sym c.is_whole_state.ensures ∙
-    not-false _ c.if-not-is_whole_state.left) (sym c.is_whole_state-2.ensures ∙ not-false _
-    c.if-not-is_whole_state-2.left))) in record { settled = it.0; numbered = it.1 }
+    c.if-not-is_whole_state.false) (sym c.is_whole_state-2.ensures ∙ c.if-not-is_whole_state-2.false))) in record { settled = it.0; numbered = it.1 }

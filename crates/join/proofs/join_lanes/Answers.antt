@@ -127,7 +127,7 @@ returns-in_default-a c =
     c.loop-left.scratch (some_left (goal.at.returns-in_default-a c).In-Lane) c.requires _ _ _ _ (met
     (goal.at.returns-in_default-a c).In-Lane) (fits (goal.at.returns-in_default-a c).After-bring-a) c.bring-a.result
     (lent c.bring-a.new.table c.bring-a.new.keys c.bring-a.new.lists) (c.bring-a.new.scratch) c.bring-a.ensures
-    c.in_default-a.keys2)
+    c.in_default-a.in_default-a-own.keys2)
 
 pub overflow_add-index : goal.overflow_add-index
 overflow_add-index c =

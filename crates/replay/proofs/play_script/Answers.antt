@@ -16,7 +16,7 @@ use Rattle.replay.proofs.play_script.Goals.{In-Whole}
 -- and of the one that was met
 inside : (c : In-Whole) → (Inside (length c.args.script.now) c.loop-turns.at (Whole c.in-Whole.name_end
     c.in-Whole.from c.in-Whole.to))
-inside c = subst (InScript c) c.in-Whole.is c.entry_at-e.ensures.inside
+inside c = subst (λ (e : Next). Inside (length c.args.script.now) c.loop-turns.at e) c.in-Whole.is c.entry_at-e.ensures.inside
 
 pub loop-turns-init : goal.loop-turns-init
 loop-turns-init c = (omega arith, (refl, (refl, (refl, refl))))

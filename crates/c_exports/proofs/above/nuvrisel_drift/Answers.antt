@@ -18,5 +18,5 @@ pub returns : goal.returns
 returns c =
     record {
       settled = same_readings _ _ _ _ _ _ _ _ (to_z-of_z c.ranges.last) (to_z-of_z c.ranges.reading)
-          c.drift.ensures;
+          c.drift.ensures.settled;
     }
