@@ -5,7 +5,8 @@
 
 ghost use Rattle.std.specs.Prelude.{◌≤◌, ◌<◌, length};
 
-use libc::STDIN_FILENO;
+// The descriptor of standard input.
+const STDIN_FILENO: i32 = 0;
 
 // A text's length, where one follows.
 #[derive(Clone, Copy)]

@@ -5,7 +5,6 @@
 
 ghost use Rattle.std.specs.Prelude.{◌≤◌, ◌<◌, length};
 
-use libc::STDOUT_FILENO;
 use report::Reported;
 use report_read::check::Checked;
 use report_read::pick::Picked;
@@ -13,6 +12,9 @@ use report_read::unhex::Unhexed;
 use store_append::Appended;
 use store_create::Created;
 use store_state::State;
+
+// The descriptor of standard output.
+const STDOUT_FILENO: i32 = 1;
 
 fn say(text: &[u8]) {
     io::write_all(STDOUT_FILENO, text);

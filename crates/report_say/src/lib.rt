@@ -3,8 +3,10 @@
 // What is said of the bytes is proved of `report_read::check::check`; that it is printed isn't.
 #![tactic(auto)]
 
-use libc::STDOUT_FILENO;
 use report_read::check::Checked;
+
+// The descriptor of standard output.
+const STDOUT_FILENO: i32 = 1;
 
 pub fn say(text: &[u8]) {
     io::write_all(STDOUT_FILENO, text);

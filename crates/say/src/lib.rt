@@ -1,12 +1,13 @@
 // Answers to the lines of a script, on standard output.
 //
 // It promises that each call ends and stays inside what is lent, and asks nothing of its callers; what is written goes
-// through a C function whose contract the kit assumes. It uses numbers and text, and the kit's io and libc.
+// through the kit's io, which stands on a C function whose contract is assumed. It uses numbers and text.
 #![tactic(auto)]
 
 ghost use Rattle.std.specs.Prelude.{◌*◌, ◌≤◌, length};
 
-use libc::STDOUT_FILENO;
+// The descriptor of standard output.
+const STDOUT_FILENO: i32 = 1;
 
 pub fn text(said: &[u8]) {
     io::write_all(STDOUT_FILENO, said);

@@ -1,7 +1,8 @@
 // Standard input, cut into lines.
 ghost use Rattle.std.specs.Prelude.{◌-◌, ◌≤◌};
 
-use libc::STDIN_FILENO;
+// The descriptor of standard input.
+const STDIN_FILENO: i32 = 0;
 
 // What is known between two lines.
 #[derive(Clone, Copy)]
@@ -66,12 +67,13 @@ fn ended(l: Lines) -> Lines
     next
 }
 
-// Reads on.
+// Reads on by one byte: a read that asks for more of the kit's io waits until all of it has come, and a person who types
+// a line waits for its answer.
 fn refill(l: Lines, chunk: &mut [u8]) -> Lines
     ensures { result.left ≤ l.left }
 {
-    let got = libc::read(STDIN_FILENO, chunk);
-    let n = io::count(got, chunk);
+    let most = numbers::least(chunk.len(), 1);
+    let n = io::read_full(STDIN_FILENO, &mut chunk[0..most]);
     if n == 0 {
         return ended(l);
     }
