@@ -16,7 +16,11 @@ TOKEN = re.compile(r"(?<![\w'·\-≤≢])[A-Za-z][\w'·≤≢<]*(?:-[\w'·≤≢
 # words of std that a lemma's name may have as one of its sides
 STD = set("length take drop append map reverse filter set replicate get_or min max add sub mul div mod pow sum suc".split())
 # facts that were spelled as values, and names whose turned form another has
-FACTS = {"quickOf": "QuickOf", "triedOf": "TriedOf", "table-grown": "table_is_grown", "record-a": "record_a_lem", "Found-as-Block": "BlockFound"}
+FACTS = {"quickOf": "QuickOf", "triedOf": "TriedOf", "table-grown": "table_is_grown", "record-a": "record_a_lem", "Found-as-Block": "BlockFound",
+         # constructors, whose lemmas give way
+         "noRoom": "no_room", "asksLength": "asks_length", "findsBlock": "finds_block", "looksUp": "looks_up",
+         "someBytes": "some_bytes", "readThere": "read_there", "asks-length": "asks_length_lem",
+         "finds-block": "finds_block_lem", "looks-up": "looks_up_lem", "read-there": "read_there_lem"}
 # spelled alike in files that have nothing of one another: seen by hand, and no file has both
 ALIKE = {"byName", "hasRoom", "inOrder", "lanesOn", "oneMore", "placeAfter", "list-pages", "goesOn"}
 # lemmas in snake case already whose name a definition now gets
@@ -122,7 +126,7 @@ def table():
         new = turned[n]
         if new == n:
             continue
-        if new in taken and taken[new] != n:
+        if new in taken and taken[new] != n and n not in FACTS:
             if n in lemmas and n not in defs and new + "_lem" not in taken:
                 new += "_lem"
             if new in taken and taken[new] != n and n not in ALIKE:

@@ -40,7 +40,7 @@ use Rattle.store.proofs.Kept.{append-whole}
 use Rattle.history_lanes.specs.Lane.{size_on, wide_on}
 use Rattle.history_lanes.proofs.Blocks.{placed_within}
 use Rattle.history_names.proofs.Lookup.{decide_member, finds, misses}
-use Rattle.history.specs.History.{World, Call, appends, looks_up_lem, asks_length_lem, reads, finds_block_lem, shows_block, lists_from}
+use Rattle.history.specs.History.{World, Call, appends, looks_up, asks_length, reads, finds_block, shows_block, lists_from}
 use Rattle.history.specs.History.{counts_keys, left, after, play}
 use Rattle.history.specs.Numbers.{number_of}
 use Rattle.brownout_faults.specs.declared.Checked.TheVariants.{Sound}
@@ -206,10 +206,10 @@ call-keeps w marks e (appends name bytes) = go (append_of w.state w.memory name 
     go (Declined st' k) q =
         subst (λ (o : Out). SaidSound (left o) marks)
         (sym (store_promises.append_refused w.state w.memory name bytes st' k q)) e
-call-keeps w marks e (looks_up_lem name) = e
-call-keeps w marks e (asks_length_lem name) = e
+call-keeps w marks e (looks_up name) = e
+call-keeps w marks e (asks_length name) = e
 call-keeps w marks e (reads name output) = e
-call-keeps w marks e (finds_block_lem name i) = e
+call-keeps w marks e (finds_block name i) = e
 call-keeps w marks e (shows_block at k) = e
 call-keeps w marks e (lists_from i) = e
 call-keeps w marks e counts_keys = e
@@ -229,10 +229,10 @@ counts w = go (checked w.state w.memory)
 
 never_4 : (w : World) → NoDamage w.state w.memory → (c : Call) → number_of c w ≢ 4
 never_4 w N (appends name bytes) = N.append name bytes
-never_4 w N (looks_up_lem name) = N.lookup name
-never_4 w N (asks_length_lem name) = N.measured name
+never_4 w N (looks_up name) = N.lookup name
+never_4 w N (asks_length name) = N.measured name
 never_4 w N (reads name output) = N.read name output
-never_4 w N (finds_block_lem name i) = N.block name i
+never_4 w N (finds_block name i) = N.block name i
 never_4 w N (shows_block at n) = λ z. omega arith
 never_4 w N (lists_from i) = N.listing i
 never_4 w N counts_keys = counts w

@@ -117,10 +117,10 @@ from_there : (run rest more : List ℕ) (at n q : ℕ) → drop at run ≡ rest 
     → drop q run ≡ more
 from_there run rest more at n q d l e = rw (e, ← drop-drop n at run, d) (drop_at rest more n l)
 
-read_there : (run rest more : List ℕ) (at n : ℕ) → drop at run ≡ rest ++ more → length rest ≡ n
+read_there_lem : (run rest more : List ℕ) (at n : ℕ) → drop at run ≡ rest ++ more → length rest ≡ n
     → read_span at n run ≡ rest
 unfolding read_span
-read_there run rest more at n d l = rw d (take_at rest more n l)
+read_there_lem run rest more at n d l = rw d (take_at rest more n l)
 
 -- an entry that stands at a place, with the rest behind it
 record Stands (run : List ℕ) (at : ℕ) (e : Entry) (rest : List ℕ) : Type 0 where
@@ -151,14 +151,14 @@ stands-encoded run at e rest F d =
     sym (length-drop at run) ∙ ap length d ∙ length-append (encoded e) rest
     ∙ ap (λ (k : ℕ). k + length rest) (length-encoded e) in
     let en : n ≡ le_number (read_span at 2 run) =
-    sym (ap le_number (read_there run ns _ at 2 d1 (length_le 2 n)) ∙ le_round 2 n (omega (arith, F.short))) in
+    sym (ap le_number (read_there_lem run ns _ at 2 d1 (length_le 2 n)) ∙ le_round 2 n (omega (arith, F.short))) in
     let em : m ≡ le_number (read_span (at + 2 + n) 4 run) =
-    sym (ap le_number (read_there run ms _ (at + 2 + n) 4 d3 (length_le 4 m))
+    sym (ap le_number (read_there_lem run ms _ (at + 2 + n) 4 d3 (length_le 4 m))
     ∙ le_round 4 m (omega (arith, F.counted))) in
     record {
       whole = entry_whole run at n m en em (omega (arith, size)) (omega (arith, size)) (omega (arith, size));
-      its_name = read_there run e.name _ (at + 2) n d2 refl;
-      its_bytes = read_there run e.bytes rest (at + 2 + n + 4) m d4 refl;
+      its_name = read_there_lem run e.name _ (at + 2) n d2 refl;
+      its_bytes = read_there_lem run e.bytes rest (at + 2 + n + 4) m d4 refl;
       behind = from_there run e.bytes rest (at + 2 + n + 4) m (at + 2 + n + 4 + m) d4 refl refl;
       within = omega (arith, size);
     }

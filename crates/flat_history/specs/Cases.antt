@@ -5,7 +5,7 @@ use Rattle.shared_arena_hashmap.specs.Buckets.{cleared}
 use Rattle.store_create.specs.Create.{fresh_state, create_of}
 use Rattle.store_look.specs.Look.{lent}
 use Rattle.store_append.specs.Append.{append_of}
-use Rattle.history.specs.History.{World, Born, Call, appends, looks_up_lem, log_of, asked_for}
+use Rattle.history.specs.History.{World, Born, Call, appends, looks_up, log_of, asked_for}
 use Rattle.flat_store.specs.Calls.{append_of as flat_append_of}
 use Rattle.flat_store.specs.History.{flat, log_of as flat_log}
 use Rattle.flat_history.specs.Agreement.{Unrefused, FlatUnrefused, WidePages}
@@ -25,7 +25,7 @@ born = record { made = refl; keys_lent = refl; lists_lent = refl }
 -- RULES AH10. Three bytes to A, a lookup of B, an empty append to B, a byte more to A
 abbrev pub calls : List Call
 calls =
-    appends (65 ∷ []) (1 ∷ 2 ∷ 3 ∷ []) ∷ looks_up_lem (66 ∷ []) ∷ appends (66 ∷ []) [] ∷ appends (65 ∷ []) (4 ∷ []) ∷ []
+    appends (65 ∷ []) (1 ∷ 2 ∷ 3 ∷ []) ∷ looks_up (66 ∷ []) ∷ appends (66 ∷ []) [] ∷ appends (65 ∷ []) (4 ∷ []) ∷ []
 
 -- RULES AH10. On that store, and on a flat buffer of 25 bytes, which they just fill
 pub unrefused_case : WidePages start

@@ -26,7 +26,7 @@ use Rattle.store_state.proofs.Guard.{kind-long}
 use Rattle.store_look.proofs.Found.{lookup_3}
 use Rattle.history_names.proofs.Grow.{clears_count}
 use Rattle.history_names.proofs.Lookup.{looks_few}
-use Rattle.history.specs.History.{World, Call, appends, looks_up_lem, asks_length_lem, reads, finds_block_lem, shows_block}
+use Rattle.history.specs.History.{World, Call, appends, looks_up, asks_length, reads, finds_block, shows_block}
 use Rattle.history.specs.History.{lists_from, counts_keys, Born, is_accepted, accepts, left, after, play}
 use Rattle.history.specs.History.{joined, is_joined, among, accepted_names}
 use Rattle.history.specs.Due.{shape_of, due_list, due_by, due}
@@ -214,10 +214,10 @@ module _ (capacity seed size : ℕ) (table keys lists : List ℕ) (w : World)
   refused_unchanged calls (appends name bytes) f =
       let A = refusals_exact calls name bytes in
       ap left (A.refused (λ z. f (A.said ∙ z)))
-  refused_unchanged calls (looks_up_lem name) f = refl
-  refused_unchanged calls (asks_length_lem name) f = refl
+  refused_unchanged calls (looks_up name) f = refl
+  refused_unchanged calls (asks_length name) f = refl
   refused_unchanged calls (reads name output) f = refl
-  refused_unchanged calls (finds_block_lem name i) f = refl
+  refused_unchanged calls (finds_block name i) f = refl
   refused_unchanged calls (shows_block at n) f = refl
   refused_unchanged calls (lists_from i) f = refl
   refused_unchanged calls counts_keys f = refl

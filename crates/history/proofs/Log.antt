@@ -11,7 +11,7 @@ use Rattle.store_append.specs.declared.Appended.{Appended}
 use Rattle.store_append.specs.declared.Appended.TheVariants.{Accepted, Declined}
 use Rattle.store_append.specs.Append.{Out}
 use Rattle.store.proofs.Promises.{promises}
-use Rattle.history.specs.History.{World, Call, appends, looks_up_lem, asks_length_lem, reads, finds_block_lem, shows_block}
+use Rattle.history.specs.History.{World, Call, appends, looks_up, asks_length, reads, finds_block, shows_block}
 use Rattle.history.specs.History.{lists_from, counts_keys, append_in, state_after, after, play}
 use Rattle.history.specs.History.{Entry, logged, log_of, joined_on, joined_in, with_name, names_in}
 
@@ -41,10 +41,10 @@ call_size (appends name bytes) w = go (append_in w name bytes).answer refl
         ap (λ (r : Appended). (state_after r).key_arena.size) (sym e)
         ∙ ap (λ (o : Out). (state_after o.answer).key_arena.size)
         (promises.append_refused w.state w.memory name bytes s n e)
-call_size (looks_up_lem name) w = refl
-call_size (asks_length_lem name) w = refl
+call_size (looks_up name) w = refl
+call_size (asks_length name) w = refl
 call_size (reads name output) w = refl
-call_size (finds_block_lem name i) w = refl
+call_size (finds_block name i) w = refl
 call_size (shows_block at n) w = refl
 call_size (lists_from i) w = refl
 call_size counts_keys w = refl

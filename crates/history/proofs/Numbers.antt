@@ -29,7 +29,7 @@ use Rattle.store_look.specs.Look.{read_of, block_at, find_block_of, next_of}
 use Rattle.store_append.specs.Append.{is_crowded}
 use Rattle.store_state.proofs.Guard.{kind-length}
 use Rattle.store_look.proofs.Found.{lookup_3, lookup-nameless}
-use Rattle.history.specs.History.{World, Call, appends, looks_up_lem, asks_length_lem, reads, finds_block_lem, shows_block}
+use Rattle.history.specs.History.{World, Call, appends, looks_up, asks_length, reads, finds_block, shows_block}
 use Rattle.history.specs.History.{lists_from, counts_keys}
 use Rattle.history.specs.Due.{shape_of, due_blocks, due_record, due_list, due_new, due_by, due}
 use Rattle.history.specs.Numbers.{lookup_number, answer_number, listed_number, counted_number, number_of}
@@ -104,31 +104,31 @@ read_listed (some bs) output = go (leb (length bs) (length output))
 pub due_of_listed : (c : Call) (w : World) (stood : List ℕ → Option (List ℕ))
     → is_one_of (numbers_of c) (due_of c w stood) ≡ true
 due_of_listed (appends name bytes) w stood = due_listed w.state w.memory name (stood name) (length bytes)
-due_of_listed (looks_up_lem name) w stood = named_listed [] w.state name 0 refl
-due_of_listed (asks_length_lem name) w stood = named_listed [] w.state name 0 refl
+due_of_listed (looks_up name) w stood = named_listed [] w.state name 0 refl
+due_of_listed (asks_length name) w stood = named_listed [] w.state name 0 refl
 due_of_listed (reads name output) w stood =
     named_listed (8 ∷ []) w.state name (due_read (stood name) output) (read_listed (stood name) output)
-due_of_listed (finds_block_lem name i) w stood = named_listed [] w.state name 0 refl
+due_of_listed (finds_block name i) w stood = named_listed [] w.state name 0 refl
 due_of_listed (shows_block at n) w stood = refl
 due_of_listed (lists_from i) w stood = refl
 due_of_listed counts_keys w stood = refl
 
 no_2 : (c : Call) → is_one_of (numbers_of c) 2 ≡ false
 no_2 (appends name bytes) = refl
-no_2 (looks_up_lem name) = refl
-no_2 (asks_length_lem name) = refl
+no_2 (looks_up name) = refl
+no_2 (asks_length name) = refl
 no_2 (reads name output) = refl
-no_2 (finds_block_lem name i) = refl
+no_2 (finds_block name i) = refl
 no_2 (shows_block at n) = refl
 no_2 (lists_from i) = refl
 no_2 counts_keys = refl
 
 no_4 : (c : Call) → is_one_of (numbers_of c) 4 ≡ false
 no_4 (appends name bytes) = refl
-no_4 (looks_up_lem name) = refl
-no_4 (asks_length_lem name) = refl
+no_4 (looks_up name) = refl
+no_4 (asks_length name) = refl
 no_4 (reads name output) = refl
-no_4 (finds_block_lem name i) = refl
+no_4 (finds_block name i) = refl
 no_4 (shows_block at n) = refl
 no_4 (lists_from i) = refl
 no_4 counts_keys = refl
@@ -159,16 +159,16 @@ module _ (w : World) (stood : List ℕ → Option (List ℕ)) (whole : checked w
       go Nameless e = ap f (lookup-nameless w.state w.memory name whole e) ∙ q
       go Proper e = r (R name (kind-length w.state (length name) Proper e).1)
 
-  looks_up : number_of (looks_up_lem name) w ≡ due_named w.state name 0
-  looks_up = by-kind lookup_number 0 refl refl (go (stood name))
+  looks_up_lem : number_of (looks_up name) w ≡ due_named w.state name 0
+  looks_up_lem = by-kind lookup_number 0 refl refl (go (stood name))
     where
       go : (o : Option (List ℕ)) → ReadsAs w name o → lookup_number (lookup_of w.state w.memory name) ≡ 0
       go none A = ap lookup_number A.missed
       go (some bs) A = ap lookup_number A.found
 
-  asks_length : number_of (asks_length_lem name) w ≡ due_named w.state name 0
+  asks_length_lem : number_of (asks_length name) w ≡ due_named w.state name 0
   unfolding length_of
-  asks_length =
+  asks_length_lem =
       by-kind (λ (x : Lookup). answer_number (on_lookup x (length_at w.memory.keys))) 0 refl refl (go (stood name))
     where
       go : (o : Option (List ℕ)) → ReadsAs w name o → answer_number (length_of w.state w.memory name) ≡ 0
@@ -178,11 +178,11 @@ module _ (w : World) (stood : List ℕ → Option (List ℕ)) (whole : checked w
   reads_on : (output : List ℕ) → number_of (reads name output) w ≡ due_named w.state name (due_read (stood name) output)
   unfolding read_of
   reads_on output =
-      by-kind (λ (x : Lookup). answer_number (on_lookup_read x read_there_lem output).answer) (due_read (stood name) output)
+      by-kind (λ (x : Lookup). answer_number (on_lookup_read x read_there output).answer) (due_read (stood name) output)
       refl refl (go (stood name))
     where
-      read_there_lem : ℕ → Read
-      read_there_lem at = read_at w.state w.memory at output
+      read_there : ℕ → Read
+      read_there at = read_at w.state w.memory at output
 
       fits : (bs : List ℕ) → ReadsAs w name (some bs) → (b : Bool) → leb (length bs) (length output) ≡ b
           → answer_number (read_of w.state w.memory name output).answer ≡ cond b 0 8
@@ -194,9 +194,9 @@ module _ (w : World) (stood : List ℕ → Option (List ℕ)) (whole : checked w
       go none A = ap (λ (r : Read). answer_number r.answer) (A.unread output)
       go (some bs) A = fits bs A (leb (length bs) (length output)) refl
 
-  finds_block : (i : ℕ) → number_of (finds_block_lem name i) w ≡ due_named w.state name 0
+  finds_block_lem : (i : ℕ) → number_of (finds_block name i) w ≡ due_named w.state name 0
   unfolding find_block_of
-  finds_block i =
+  finds_block_lem i =
       by-kind (λ (x : Lookup). answer_number (on_lookup x (block_at w.state w.memory i))) 0 refl refl
       (go (stood name))
     where
@@ -222,10 +222,10 @@ module _ (w : World) (stood : List ℕ → Option (List ℕ)) (whole : checked w
   -- every call's answer has the number that the call is due
   pub number_due : (c : Call) → number_of c w ≡ due_of c w stood
   number_due (appends name bytes) = (A name bytes).said
-  number_due (looks_up_lem name) = looks_up w stood whole R name
-  number_due (asks_length_lem name) = asks_length w stood whole R name
+  number_due (looks_up name) = looks_up_lem w stood whole R name
+  number_due (asks_length name) = asks_length_lem w stood whole R name
   number_due (reads name output) = reads_on w stood whole R name output
-  number_due (finds_block_lem name i) = finds_block w stood whole R name i
+  number_due (finds_block name i) = finds_block_lem w stood whole R name i
   number_due (shows_block at n) = refl
   number_due (lists_from i) = unstopped_number (next_of w.state w.memory i) (N.unstopped i)
   number_due counts_keys = ap counted_number N.told

@@ -14,7 +14,7 @@ use Rattle.store_append.specs.declared.Appended.TheVariants.{Accepted}
 use Rattle.store_append.specs.Append.{Out, out, declined}
 use Rattle.history_names.specs.Listing.{times}
 use Rattle.history_names.proofs.Lookup.{decide_name}
-use Rattle.history.specs.History.{World, Call, appends, looks_up_lem, asks_length_lem, reads, finds_block_lem, shows_block}
+use Rattle.history.specs.History.{World, Call, appends, looks_up, asks_length, reads, finds_block, shows_block}
 use Rattle.history.specs.History.{lists_from, counts_keys, append_in, is_accepted, left, after, play}
 use Rattle.history.specs.History.{Entry, entry, logged, log_of, joined_on, joined_in, among, with_name, names_in}
 use Rattle.history.specs.Sound.{Ghosts, Stands, Sound, bytes_of}
@@ -220,13 +220,13 @@ unfolding joined_in names_in
 call_step S (appends name bytes) =
     let P = step S name bytes in
     record { ghosts = P.ghosts; sound = P.sound; says = P.says; counts = P.counts; stays = P.stays }
-call_step {w} {G} S (looks_up_lem name) =
+call_step {w} {G} S (looks_up name) =
     record { ghosts = G; sound = S; says = λ j x s. s; counts = λ ns c. c; stays = stays_same G }
-call_step {w} {G} S (asks_length_lem name) =
+call_step {w} {G} S (asks_length name) =
     record { ghosts = G; sound = S; says = λ j x s. s; counts = λ ns c. c; stays = stays_same G }
 call_step {w} {G} S (reads name output) =
     record { ghosts = G; sound = S; says = λ j x s. s; counts = λ ns c. c; stays = stays_same G }
-call_step {w} {G} S (finds_block_lem name i) =
+call_step {w} {G} S (finds_block name i) =
     record { ghosts = G; sound = S; says = λ j x s. s; counts = λ ns c. c; stays = stays_same G }
 call_step {w} {G} S (shows_block at n) =
     record { ghosts = G; sound = S; says = λ j x s. s; counts = λ ns c. c; stays = stays_same G }

@@ -22,10 +22,10 @@ pub record World : Type 0 where
 -- RULES Y1. A call, with its arguments
 pub data Call : Type 0 where
   appends : List ℕ → List ℕ → Call
-  looks_up_lem : List ℕ → Call
-  asks_length_lem : List ℕ → Call
+  looks_up : List ℕ → Call
+  asks_length : List ℕ → Call
   reads : List ℕ → List ℕ → Call
-  finds_block_lem : List ℕ → ℕ → Call
+  finds_block : List ℕ → ℕ → Call
   shows_block : ℕ → ℕ → Call
   lists_from : ℕ → Call
   counts_keys : Call
@@ -55,10 +55,10 @@ left o = record { state = state_after o.answer; memory = o.memory }
 -- RULES Y1. The world after a call: only an append can change it
 abbrev pub after : Call → World → World
 after (appends name bytes) w = left (append_in w name bytes)
-after (looks_up_lem name) w = w
-after (asks_length_lem name) w = w
+after (looks_up name) w = w
+after (asks_length name) w = w
 after (reads name output) w = w
-after (finds_block_lem name i) w = w
+after (finds_block name i) w = w
 after (shows_block at n) w = w
 after (lists_from i) w = w
 after counts_keys w = w
@@ -79,10 +79,10 @@ pub record Born (capacity seed size : ℕ) (table keys lists : List ℕ) (w : Wo
 -- RULES Y2. What a call adds: an append itself, where it is accepted
 abbrev pub logged : Call → World → List Entry
 logged (appends name bytes) w = cond (accepts w name bytes) (entry name bytes ∷ []) []
-logged (looks_up_lem name) w = []
-logged (asks_length_lem name) w = []
+logged (looks_up name) w = []
+logged (asks_length name) w = []
 logged (reads name output) w = []
-logged (finds_block_lem name i) w = []
+logged (finds_block name i) w = []
 logged (shows_block at n) w = []
 logged (lists_from i) w = []
 logged counts_keys w = []
@@ -97,10 +97,10 @@ log_of (c ∷ calls) w = logged c w ++ log_of calls (after c w)
 -- RULES Y15. Of a call
 abbrev pub asked_by : Call → List Entry
 asked_by (appends name bytes) = entry name bytes ∷ []
-asked_by (looks_up_lem name) = []
-asked_by (asks_length_lem name) = []
+asked_by (looks_up name) = []
+asked_by (asks_length name) = []
 asked_by (reads name output) = []
-asked_by (finds_block_lem name i) = []
+asked_by (finds_block name i) = []
 asked_by (shows_block at n) = []
 asked_by (lists_from i) = []
 asked_by counts_keys = []

@@ -13,7 +13,7 @@ use Rattle.store_look.specs.Said.{said_lookup, said_answer, said_listed, said_co
 use Rattle.store_append.specs.Said.{said_appended}
 use Rattle.store_state.specs.Name.{name_kind, by_kind}
 use Rattle.store_look.specs.Look.{lookup_of, length_of, read_of, find_block_of, next_of, count_of}
-use Rattle.history.specs.History.{World, Call, appends, looks_up_lem, asks_length_lem, reads, finds_block_lem, shows_block}
+use Rattle.history.specs.History.{World, Call, appends, looks_up, asks_length, reads, finds_block, shows_block}
 use Rattle.history.specs.History.{lists_from, counts_keys, append_in}
 use Rattle.history.specs.Due.{due}
 
@@ -42,10 +42,10 @@ counted_number r = number_in (said_counted r)
 -- RULES Y8. Of a call; showing a block has no number, a state that isn't whole shows an empty part
 abbrev pub number_of : Call → World → ℕ
 number_of (appends name bytes) w = appended_number (append_in w name bytes).answer
-number_of (looks_up_lem name) w = lookup_number (lookup_of w.state w.memory name)
-number_of (asks_length_lem name) w = answer_number (length_of w.state w.memory name)
+number_of (looks_up name) w = lookup_number (lookup_of w.state w.memory name)
+number_of (asks_length name) w = answer_number (length_of w.state w.memory name)
 number_of (reads name output) w = answer_number (read_of w.state w.memory name output).answer
-number_of (finds_block_lem name i) w = answer_number (find_block_of w.state w.memory name i)
+number_of (finds_block name i) w = answer_number (find_block_of w.state w.memory name i)
 number_of (shows_block at n) w = 0
 number_of (lists_from i) w = listed_number (next_of w.state w.memory i)
 number_of counts_keys w = counted_number (count_of w.state w.memory)
@@ -65,10 +65,10 @@ due_read (some bs) output = cond (leb (length bs) (length output)) 0 8
 -- RULES Y8.
 abbrev pub due_of : Call → World → (List ℕ → Option (List ℕ)) → ℕ
 due_of (appends name bytes) w stood = due w.state w.memory name (stood name) (length bytes)
-due_of (looks_up_lem name) w stood = due_named w.state name 0
-due_of (asks_length_lem name) w stood = due_named w.state name 0
+due_of (looks_up name) w stood = due_named w.state name 0
+due_of (asks_length name) w stood = due_named w.state name 0
 due_of (reads name output) w stood = due_named w.state name (due_read (stood name) output)
-due_of (finds_block_lem name i) w stood = due_named w.state name 0
+due_of (finds_block name i) w stood = due_named w.state name 0
 due_of (shows_block at n) w stood = 0
 due_of (lists_from i) w stood = 0
 due_of counts_keys w stood = 0
@@ -78,10 +78,10 @@ due_of counts_keys w stood = 0
 -- RULES Y8.
 abbrev pub numbers_of : Call → List ℕ
 numbers_of (appends name bytes) = 3 ∷ 13 ∷ 5 ∷ 6 ∷ 7 ∷ []
-numbers_of (looks_up_lem name) = 3 ∷ []
-numbers_of (asks_length_lem name) = 3 ∷ []
+numbers_of (looks_up name) = 3 ∷ []
+numbers_of (asks_length name) = 3 ∷ []
 numbers_of (reads name output) = 3 ∷ 8 ∷ []
-numbers_of (finds_block_lem name i) = 3 ∷ []
+numbers_of (finds_block name i) = 3 ∷ []
 numbers_of (shows_block at n) = []
 numbers_of (lists_from i) = []
 numbers_of counts_keys = []

@@ -4,7 +4,7 @@ use Rattle.std.specs.Prelude.{◌≡◌, refl, List, [], ◌∷◌, ℤ, pos, ne
 use Rattle.vint.specs.Vint.{vint_bytes}
 use Rattle.shared_arena_hashmap.specs.Buckets.{cleared}
 use Rattle.store_append.specs.Append.{append_of}
-use Rattle.history.specs.History.{looks_up_lem}
+use Rattle.history.specs.History.{looks_up}
 use Rattle.history.specs.Cases.{lane_a, start}
 use Rattle.history_readings.specs.Steps.{Step, reading, call, a_reading, accepted_for, readings_among}
 
@@ -21,7 +21,7 @@ steps =
     ∷ reading lane_a (pos 0) lowest
     ∷ reading lane_a lowest (pos 0)
     ∷ reading lane_a (pos 0) lowest
-    ∷ call (looks_up_lem lane_a)
+    ∷ call (looks_up lane_a)
     ∷ reading lane_a (pos 0) (pos 0)
     ∷ []
 

@@ -10,7 +10,7 @@ pub data Word : Type 0 where
   done : Word
   -- an allocation's address and the arena's state after it; no page has room
   an_address : Word
-  no_room_lem : Word
+  no_room : Word
   -- a number read from a vint, and the bytes taken
   a_number : Word
   -- a creation, an append
@@ -35,7 +35,7 @@ pub data Word : Type 0 where
   a_lane : Word
   no_such_lane : Word
   -- the bytes that hex stands for; no hex
-  some_bytes_lem : Word
+  some_bytes : Word
   no_hex : Word
   -- a lane's readings, how many; a part of a lane's bytes, how many; the numbers of a piece, how many
   some_readings : Word

@@ -4,7 +4,7 @@
 -- size in a bare arena state is 10, whatever is asked" (document 02, Nine).
 use Rattle.std.specs.Prelude.{ℕ, ◌≡◌, refl, Bool, cond, ◌&&◌, ◌||◌, List, [], ◌∷◌, ltb, eqb, length, replicate}
 use Rattle.limits.specs.Limits.{page_taken, arena_limit_for}
-use Rattle.limits.specs.Refusals.{Said, answered, refused, done, an_address, no_room_lem, one-outcome}
+use Rattle.limits.specs.Refusals.{Said, answered, refused, done, an_address, no_room, one-outcome}
 use Rattle.spans.specs.Span.{read_span, overwrite}
 use Rattle.memory_arena.specs.declared.Arena.{Arena}
 use Rattle.memory_arena.specs.declared.Allocated.{Allocated}
@@ -24,7 +24,7 @@ sensible a len = page_taken a.size && (lendable (arena_limit_for a.size) len && 
 -- RULES X7.
 abbrev pub said_allocated : Allocated → Said
 said_allocated (At address a) = answered an_address (address ∷ a.page ∷ a.used ∷ a.size ∷ [])
-said_allocated NoRoom = answered no_room_lem []
+said_allocated NoRoom = answered no_room []
 said_allocated (Refused n) = refused n []
 
 -- RULES X7.
@@ -85,11 +85,11 @@ hundred = replicate 100 7
 
 -- RULES X7.
 pub said_cases : (said_allocated (allocate_of (used 88 65536) 100 12) ≡ answered an_address (88 ∷ 0 ∷ 100 ∷ 65536 ∷ []))
-    × (said_allocated (allocate_of (used 89 65536) 100 12) ≡ answered no_room_lem [])
+    × (said_allocated (allocate_of (used 89 65536) 100 12) ≡ answered no_room [])
     × (said_allocated (allocate_of (used 101 65536) 100 0) ≡ refused 9 [])
     × (said_allocated (allocate_of (used 101 65536) 100 12) ≡ refused 10 [])
     × (said_allocated (allocate_of (used 88 65536) 100 65537) ≡ refused 9 [])
-    × (said_allocated (allocate_of (used 88 131072) 100 65537) ≡ answered no_room_lem [])
+    × (said_allocated (allocate_of (used 88 131072) 100 65537) ≡ answered no_room [])
     × (said_allocated (allocate_of (used 88 65537) 100 0) ≡ refused 10 [])
     × (said_touched (read_of (used 88 65536) hundred 86 (0 ∷ 0 ∷ [])).answer ≡ answered done [])
     × (said_touched (read_of (used 88 65536) hundred 87 (0 ∷ 0 ∷ [])).answer ≡ refused 10 [])

@@ -16,7 +16,7 @@ use Rattle.fastcmp.proofs.Laws.{equal_both}
 use Rattle.report_text.specs.Text.{Lane, lane, total_of, store_line, terms_word, total_word, term_word, len_word, bytes_word}
 use Rattle.report_text.specs.Text.{end_line, hex}
 use Rattle.report_text.specs.Reader.{Lines, ended, unended, lines_of, and_then, number_in, bytes_in, bytes_of, named}
-use Rattle.report_text.specs.Reader.{Expects, a_store, a_terms, a_total, a_lane, a_length, some_bytes_lem, nothing, provided}
+use Rattle.report_text.specs.Reader.{Expects, a_store, a_terms, a_total, a_lane, a_length, some_bytes, nothing, provided}
 use Rattle.report_text.specs.Reader.{name_taken, end_taken, bytes_taken, line_read, Told, lanes, bad, rest_read, or_bad}
 use Rattle.report_text.specs.Reader.{lines_read, text_read}
 use Rattle.report_text.proofs.Values.{hex_back, hex-length}
@@ -127,7 +127,7 @@ module _ (t : List ℕ) where
   Rel (a_lane k n ls) p L = (p ≡ progress 3 k n (length ls) (total_of ls) 0) × At (lane-at ls) L × Seen ls
   Rel (a_length k n ls x) p L =
       (p ≡ progress 4 k n (length ls) (total_of ls) 0) × At (next_line t (lane-at ls)) L × Seen ls × Name ls x
-  Rel (some_bytes_lem k n ls x len) p L =
+  Rel (some_bytes k n ls x len) p L =
       (p ≡ progress 5 k n (length ls) (total_of ls) len) × At (next_line t (next_line t (lane-at ls))) L × Seen ls
       × Name ls x × Length ls len
   Rel (nothing ls) p L = (p.expected ≡ 6) × (p.lanes ≡ length ls) × (p.bytes ≡ total_of ls) × Seen ls
@@ -221,12 +221,12 @@ module _ (t : List ℕ) where
         at = next_line t (lane-at seen)
 
         go : (o : Option ℕ) → number_in len_word l ≡ o
-            → LineRel (and_then o (λ len. some (some_bytes_lem k n seen x len)))
+            → LineRel (and_then o (λ len. some (some_bytes k n seen x len)))
             (on_number o (λ m. Good (progress 5 k n (length seen) (total_of seen) m))) L
         go none e = tt
         go (some m) e =
             (refl, behind at R.1, R.2, R.3, ap (number_in len_word) (sym (here at R.1)) ∙ e)
-    line-rel (some_bytes_lem k n seen x len) p R = rw R.0 (go (bytes_in bytes_word l) refl)
+    line-rel (some_bytes k n seen x len) p R = rw R.0 (go (bytes_in bytes_word l) refl)
       where
         go : (o : Option (List ℕ)) → bytes_in bytes_word l ≡ o
             → LineRel (and_then o (λ bs. bytes_taken k n seen x len bs))
@@ -258,7 +258,7 @@ module _ (t : List ℕ) where
   rest-rel (a_total k) p n l L R = rw R.0 (refl, tt)
   rest-rel (a_lane k m seen) p n l L R = rw R.0 (refl, tt)
   rest-rel (a_length k m seen x) p n l L R = rw R.0 (refl, tt)
-  rest-rel (some_bytes_lem k m seen x len) p n l L R = rw R.0 (refl, tt)
+  rest-rel (some_bytes k m seen x len) p n l L R = rw R.0 (refl, tt)
   rest-rel (nothing seen) p n l L R = rw R.0 (go l)
     where
       go : (l : List ℕ)

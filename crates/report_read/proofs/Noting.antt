@@ -19,7 +19,7 @@ use Rattle.marks.proofs.Laws.{length_mark, mark_here, mark_other}
 use Rattle.report_text.specs.Text.{Lane, lane, total_of, store_line, terms_word, total_word, term_word, len_word, bytes_word}
 use Rattle.report_text.specs.Text.{end_line, hex}
 use Rattle.report_text.specs.Reader.{Lines, ended, lines_of, and_then, number_in, bytes_in, named, Expects, a_store, a_terms}
-use Rattle.report_text.specs.Reader.{a_total, a_lane, a_length, some_bytes_lem, nothing, provided, name_taken, end_taken}
+use Rattle.report_text.specs.Reader.{a_total, a_lane, a_length, some_bytes, nothing, provided, name_taken, end_taken}
 use Rattle.report_text.specs.Reader.{bytes_taken, line_read}
 use Rattle.report_text.specs.Values.{hexed_of}
 use Rattle.report_text.specs.declared.fields.Hexed.TheVariants.{Bytes}
@@ -98,7 +98,7 @@ NotedIn notes a_terms = Unit {0}
 NotedIn notes (a_total k) = Unit {0}
 NotedIn notes (a_lane k n seen) = EachNoted notes seen
 NotedIn notes (a_length k n seen x) = EachNoted notes seen × IsNoted notes x
-NotedIn notes (some_bytes_lem k n seen x len) = EachNoted notes seen × IsNoted notes x
+NotedIn notes (some_bytes k n seen x len) = EachNoted notes seen × IsNoted notes x
 NotedIn notes (nothing seen) = Unit {0}
 
 each-grows : (notes notes' : List ℕ) (ls : List Lane) → Grows notes notes' → EachNoted notes ls → EachNoted notes' ls
@@ -175,7 +175,7 @@ module _ (t l : List ℕ) (L : Lines) (p : Progress) (notes : List ℕ) (maybe :
     where
       no : p ≡ progress 4 k n (length seen) (total_of seen) 0 → ⊥
       no q = omega (arith, e, ap (λ (x : Progress). x.expected) q)
-  vouched N (some_bytes_lem k n seen x len) R D e = absurd (no R.0)
+  vouched N (some_bytes k n seen x len) R D e = absurd (no R.0)
     where
       no : p ≡ progress 5 k n (length seen) (total_of seen) len → ⊥
       no q = omega (arith, e, ap (λ (x : Progress). x.expected) q)
@@ -222,10 +222,10 @@ module _ (t l : List ℕ) (L : Lines) (p : Progress) (notes : List ℕ) (maybe :
           (provided_some (eqb (length seen) k && eqb (total_of seen) n) (nothing seen) s' e).1 tt
       go false e = name e
   noted-on (a_length k n seen x) s' G H R D e =
-      let y = then_some (number_in len_word l) (λ (len : ℕ). some (some_bytes_lem k n seen x len)) s' e in
-      let q : some_bytes_lem k n seen x y.0 ≡ s' = cc in
+      let y = then_some (number_in len_word l) (λ (len : ℕ). some (some_bytes k n seen x len)) s' e in
+      let q : some_bytes k n seen x y.0 ≡ s' = cc in
       subst (NotedIn notes') q (each-grows notes notes' seen G D.0, G (note_of (line_of x)) D.1)
-  noted-on (some_bytes_lem k n seen x len) s' G H R D e =
+  noted-on (some_bytes k n seen x len) s' G H R D e =
       let y = then_some (bytes_in bytes_word l) (λ (bs : List ℕ). bytes_taken k n seen x len bs) s' e in
       let z = provided_some (eqb (length y.0) len) (a_lane k n (seen ++ (lane x y.0 ∷ []))) s' y.2 in
       subst (NotedIn notes') z.1

@@ -1,6 +1,6 @@
 -- RULES AA15. A row a case: what the reader's calls say of document 02's two texts and of bad ones.
 use Rattle.std.specs.Prelude.{ℕ, ◌≡◌, refl, List, [], ◌∷◌, ◌++◌}
-use Rattle.limits.specs.Refusals.{answered, refused, some_lanes, a_lane, no_such_lane, some_bytes_lem, no_hex}
+use Rattle.limits.specs.Refusals.{answered, refused, some_lanes, a_lane, no_such_lane, some_bytes, no_hex}
 use Rattle.report_text.specs.Cases.{empty_text, a_text}
 use Rattle.report_text.specs.Reader.{text_read}
 use Rattle.report_read.specs.Counted.{checked_of}
@@ -26,7 +26,7 @@ said_picked_lem = (refl, refl, refl, refl)
 
 -- RULES AA15. `0a0f`, `0A` and `0`.
 pub said_unhexed_lem : (said_unhexed (unhex_of (48 ∷ 97 ∷ 48 ∷ 102 ∷ []) (7 ∷ 7 ∷ 7 ∷ [])).answer
-    ≡ answered some_bytes_lem (2 ∷ []))
+    ≡ answered some_bytes (2 ∷ []))
     × ((unhex_of (48 ∷ 97 ∷ 48 ∷ 102 ∷ []) (7 ∷ 7 ∷ 7 ∷ [])).output ≡ 10 ∷ 15 ∷ 7 ∷ [])
     × (said_unhexed (unhex_of (48 ∷ 97 ∷ 48 ∷ 102 ∷ []) (7 ∷ [])).answer ≡ refused 8 (2 ∷ []))
     × (said_unhexed (unhex_of (48 ∷ 65 ∷ []) (7 ∷ [])).answer ≡ answered no_hex [])

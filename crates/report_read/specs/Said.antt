@@ -1,6 +1,6 @@
 -- RULES X7. What each answer says: its word and the values it tells, or a refusal's number and what is told beside it.
 use Rattle.std.specs.Prelude.{List, [], ◌∷◌}
-use Rattle.limits.specs.Refusals.{Said, answered, refused, some_lanes, a_lane, no_such_lane, some_bytes_lem, no_hex}
+use Rattle.limits.specs.Refusals.{Said, answered, refused, some_lanes, a_lane, no_such_lane, some_bytes, no_hex}
 use Rattle.report_read.specs.declared.check.Checked.{Checked}
 use Rattle.report_read.specs.declared.check.Checked.TheVariants.{Lanes, Refused}
 use Rattle.report_read.specs.declared.pick.Picked.{Picked}
@@ -21,6 +21,6 @@ said_picked (Unread n line) = refused n (line ∷ [])
 
 -- RULES X7. 8 tells the bytes needed.
 abbrev pub said_unhexed : Unhexed → Said
-said_unhexed (Bytes n) = answered some_bytes_lem (n ∷ [])
+said_unhexed (Bytes n) = answered some_bytes (n ∷ [])
 said_unhexed NoHex = answered no_hex []
 said_unhexed (Short n needed) = refused n (needed ∷ [])

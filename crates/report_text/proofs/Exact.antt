@@ -18,7 +18,7 @@ use Rattle.report_text.specs.Text.{Lane, lane, total_of, newline, store_line, te
 use Rattle.report_text.specs.Text.{len_word, bytes_word, end_line, decimal, hex, line, lane_text, lanes_text, head_text}
 use Rattle.report_text.specs.Text.{report_text}
 use Rattle.report_text.specs.Reader.{Lines, ended, unended, in_front, lines_of, and_then, number_in, bytes_in, named}
-use Rattle.report_text.specs.Reader.{Expects, a_store, a_terms, a_total, a_lane, a_length, some_bytes_lem, nothing}
+use Rattle.report_text.specs.Reader.{Expects, a_store, a_terms, a_total, a_lane, a_length, some_bytes, nothing}
 use Rattle.report_text.specs.Reader.{provided, name_taken, end_taken, line_read, Told, lanes, bad, no_more, or_bad}
 use Rattle.report_text.specs.Reader.{bytes_taken, rest_read, lines_read, text_read}
 use Rattle.report_text.specs.Reportable.{Fits, EachFits, Unseen, Reportable}
@@ -82,7 +82,7 @@ Due (a_length k n seen name) ls t =
     (rest : List Lane) × (bs : List ℕ)
     × (t ≡ line len_word (decimal (length bs)) ++ (line bytes_word (hex bs) ++ end_text rest))
     × Begun k n seen name ls rest bs
-Due (some_bytes_lem k n seen name len) ls t =
+Due (some_bytes k n seen name len) ls t =
     (rest : List Lane) × (bs : List ℕ) × (t ≡ line bytes_word (hex bs) ++ end_text rest) × (length bs ≡ len)
     × Begun k n seen name ls rest bs
 Due (nothing seen) ls t = (t ≡ []) × (ls ≡ seen)
@@ -222,9 +222,9 @@ length-due : (k n : ℕ) (seen : List Lane) (name l t : List ℕ) (s : Expects) 
     → Due (a_length k n seen name) ls (l ++ (newline ∷ t))
 unfolding line_read
 length-due k n seen name l t s ls e d =
-    let x = then_some (number_in len_word l) (λ (len : ℕ). some (some_bytes_lem k n seen name len)) s e in
+    let x = then_some (number_in len_word l) (λ (len : ℕ). some (some_bytes k n seen name len)) s e in
     let f = number_form len_word l x.0 x.1 in
-    let q : some_bytes_lem k n seen name x.0 ≡ s = cc in
+    let q : some_bytes k n seen name x.0 ≡ s = cc in
     let d = subst (λ (y : Expects). Due y ls t) (sym q) d in
     let m : length d.1 ≡ x.0 = d.3 in (
       d.0,
@@ -235,8 +235,8 @@ length-due k n seen name l t s ls e d =
     )
 
 bytes-due : (k n : ℕ) (seen : List Lane) (name : List ℕ) (len : ℕ) (l t : List ℕ) (s : Expects) (ls : List Lane)
-    → line_read (some_bytes_lem k n seen name len) l ≡ some s → Due s ls t
-    → Due (some_bytes_lem k n seen name len) ls (l ++ (newline ∷ t))
+    → line_read (some_bytes k n seen name len) l ≡ some s → Due s ls t
+    → Due (some_bytes k n seen name len) ls (l ++ (newline ∷ t))
 unfolding line_read
 bytes-due k n seen name len l t s ls e d =
     let x = then_some (bytes_in bytes_word l) (λ (bs : List ℕ). bytes_taken k n seen name len bs) s e in
@@ -261,7 +261,7 @@ line-due a_terms l t s' ls e d = terms_due l t s' ls e d
 line-due (a_total k) l t s' ls e d = total_due k l t s' ls e d
 line-due (a_lane k n seen) l t s' ls e d = lane-due k n seen l t s' ls e d
 line-due (a_length k n seen name) l t s' ls e d = length-due k n seen name l t s' ls e d
-line-due (some_bytes_lem k n seen name len) l t s' ls e d = bytes-due k n seen name len l t s' ls e d
+line-due (some_bytes k n seen name len) l t s' ls e d = bytes-due k n seen name len l t s' ls e d
 line-due (nothing seen) l t s' ls e d = let z : ◌≡◌ {A = ℕ} 0 1 = cc in absurd (omega arith)
 
 told-apart : (n : ℕ) (ls : List Lane) {A : Type 0} → bad n ≡ lanes ls → A
@@ -273,7 +273,7 @@ rest-due a_terms n l ls e = told-apart n ls e
 rest-due (a_total k) n l ls e = told-apart n ls e
 rest-due (a_lane k m seen) n l ls e = told-apart n ls e
 rest-due (a_length k m seen name) n l ls e = told-apart n ls e
-rest-due (some_bytes_lem k m seen name len) n l ls e = told-apart n ls e
+rest-due (some_bytes k m seen name len) n l ls e = told-apart n ls e
 rest-due (nothing seen) n [] ls e = (refl, cc)
 rest-due (nothing seen) n (c ∷ l) ls e = told-apart n ls e
 

@@ -16,7 +16,7 @@ use Rattle.report_text.specs.Text.{Lane, lane, total_of, newline, store_line, te
 use Rattle.report_text.specs.Text.{len_word, bytes_word, end_line, digits, decimal, hex, line, lane_text}
 use Rattle.report_text.specs.Text.{lanes_text, head_text, report_text}
 use Rattle.report_text.specs.Reader.{ended, unended, in_front, lines_of, value_after, number_of, bytes_of, number_in}
-use Rattle.report_text.specs.Reader.{bytes_in, named, Expects, a_store, a_terms, a_total, a_lane, a_length, some_bytes_lem}
+use Rattle.report_text.specs.Reader.{bytes_in, named, Expects, a_store, a_terms, a_total, a_lane, a_length, some_bytes}
 use Rattle.report_text.specs.Reader.{nothing, name_taken, end_taken, line_read, Told, lanes, or_bad, lines_read}
 use Rattle.report_text.specs.Reader.{text_read}
 use Rattle.report_text.specs.Reportable.{Fits, EachFits, Unseen, Reportable}
@@ -78,12 +78,12 @@ unfolding line_read name_taken
 name-read k n ls name b h f = rw (bytes-in term_word name b, le-leb (length name) name_limit h, f)
 
 length-read : (k n : ℕ) (ls : List Lane) (name : List ℕ) (len : ℕ) → len < 10 ^ digit_limit
-    → line_read (a_length k n ls name) (len_word ++ decimal len) ≡ some (some_bytes_lem k n ls name len)
+    → line_read (a_length k n ls name) (len_word ++ decimal len) ≡ some (some_bytes k n ls name len)
 unfolding line_read
 length-read k n ls name len h = rw (number_in_lem len_word len h)
 
 bytes_read : (k n : ℕ) (ls : List Lane) (name bs : List ℕ) → Bytes bs
-    → line_read (some_bytes_lem k n ls name (length bs)) (bytes_word ++ hex bs) ≡ some (a_lane k n (ls ++ (lane name bs ∷ [])))
+    → line_read (some_bytes k n ls name (length bs)) (bytes_word ++ hex bs) ≡ some (a_lane k n (ls ++ (lane name bs ∷ [])))
 unfolding line_read
 bytes_read k n ls name bs b = rw (bytes-in bytes_word bs b, eq-eqb (length bs) (length bs) refl)
 
@@ -126,11 +126,11 @@ lane-read k n i seen a t f u h =
     ∙ read-on (a_lane k n seen) (a_length k n seen a.name) i term_word (hex a.name)
     (line len_word (decimal (length a.bytes)) ++ (line bytes_word (hex a.bytes) ++ t))
     plain_words.3 (hex-plain a.name f.name_bytes) (name-read k n seen a.name f.name_bytes f.short u)
-    ∙ read-on (a_length k n seen a.name) (some_bytes_lem k n seen a.name (length a.bytes)) (suc i) len_word
+    ∙ read-on (a_length k n seen a.name) (some_bytes k n seen a.name (length a.bytes)) (suc i) len_word
     (decimal (length a.bytes))
     (line bytes_word (hex a.bytes) ++ t)
     plain_words.4 (plain_value (length a.bytes)) (length-read k n seen a.name (length a.bytes) h)
-    ∙ read-on (some_bytes_lem k n seen a.name (length a.bytes)) (a_lane k n (seen ++ (a ∷ []))) (suc (suc i)) bytes_word
+    ∙ read-on (some_bytes k n seen a.name (length a.bytes)) (a_lane k n (seen ++ (a ∷ []))) (suc (suc i)) bytes_word
     (hex a.bytes) t
     plain_words.5 (hex-plain a.bytes f.all-bytes) (bytes_read k n seen a.name a.bytes f.all-bytes)
 

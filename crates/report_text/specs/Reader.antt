@@ -102,7 +102,7 @@ pub data Expects : Type 0 where
   a_total : ℕ → Expects
   a_lane : ℕ → ℕ → List Lane → Expects
   a_length : ℕ → ℕ → List Lane → List ℕ → Expects
-  some_bytes_lem : ℕ → ℕ → List Lane → List ℕ → ℕ → Expects
+  some_bytes : ℕ → ℕ → List Lane → List ℕ → ℕ → Expects
   nothing : List Lane → Expects
 
 -- RULES AA7. Where a test holds.
@@ -132,8 +132,8 @@ line_read (a_total terms) l = and_then (number_in total_word l) (λ total. some 
 line_read (a_lane terms total ls) l =
     cond (equal_bytes l end_line) (end_taken terms total ls)
     (and_then (bytes_in term_word l) (λ n. name_taken terms total ls n))
-line_read (a_length terms total ls n) l = and_then (number_in len_word l) (λ len. some (some_bytes_lem terms total ls n len))
-line_read (some_bytes_lem terms total ls n len) l = and_then (bytes_in bytes_word l) (λ bs. bytes_taken terms total ls n len bs)
+line_read (a_length terms total ls n) l = and_then (number_in len_word l) (λ len. some (some_bytes terms total ls n len))
+line_read (some_bytes terms total ls n len) l = and_then (bytes_in bytes_word l) (λ bs. bytes_taken terms total ls n len bs)
 line_read (nothing ls) l = none
 
 -- ---- the whole text
@@ -157,7 +157,7 @@ rest_read a_terms n l = bad n
 rest_read (a_total terms) n l = bad n
 rest_read (a_lane terms total ls) n l = bad n
 rest_read (a_length terms total ls name) n l = bad n
-rest_read (some_bytes_lem terms total ls name len) n l = bad n
+rest_read (some_bytes terms total ls name len) n l = bad n
 rest_read (nothing ls) n l = no_more l (lanes ls) (bad n)
 
 -- RULES AA6. Going on behind a good line.

@@ -26,7 +26,7 @@ use Rattle.store_state.proofs.Guard.{kind_proper}
 use Rattle.store_state.proofs.Whole.{Whole, whole_facts}
 use Rattle.store_create.proofs.Creation.{creatable_facts}
 use Rattle.history_names.specs.Listing.{times}
-use Rattle.history.specs.History.{World, Call, appends, looks_up_lem, asks_length_lem, reads, finds_block_lem, shows_block}
+use Rattle.history.specs.History.{World, Call, appends, looks_up, asks_length, reads, finds_block, shows_block}
 use Rattle.history.specs.History.{lists_from, counts_keys, Born, accepts, play, Entry, entry, logged, log_of, asked_by}
 use Rattle.history.specs.History.{asked_for, joined, is_joined, among, with_name, names_in, accepted_names}
 use Rattle.history.specs.Due.{shape_of, due_blocks, due_record, due_list, due_new, due_by, due}
@@ -304,10 +304,10 @@ module _ (capacity seed size : ℕ) (table keys lists : List ℕ) (w : World)
         ap (λ (b : Bool). cond b (entry name bs ∷ []) [])
         (accepted calls name bs
         (subst (λ (l : List Entry). StaysWithin lanes bytes longest (l ++ (entry name bs ∷ []))) (sym e) W))
-    accepted_call calls (looks_up_lem name) e W = refl
-    accepted_call calls (asks_length_lem name) e W = refl
+    accepted_call calls (looks_up name) e W = refl
+    accepted_call calls (asks_length name) e W = refl
     accepted_call calls (reads name output) e W = refl
-    accepted_call calls (finds_block_lem name i) e W = refl
+    accepted_call calls (finds_block name i) e W = refl
     accepted_call calls (shows_block at n) e W = refl
     accepted_call calls (lists_from i) e W = refl
     accepted_call calls counts_keys e W = refl

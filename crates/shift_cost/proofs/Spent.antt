@@ -21,7 +21,7 @@ use Rattle.store_state.specs.declared.State.{State}
 use Rattle.store_append.specs.Append.{Out, grows, grown_state, state_grown}
 use Rattle.store_state.proofs.Whole.{whole_facts}
 use Rattle.history_lanes.specs.Lane.{content}
-use Rattle.history.specs.History.{World, Call, appends, looks_up_lem, asks_length_lem, reads, finds_block_lem, shows_block, lists_from}
+use Rattle.history.specs.History.{World, Call, appends, looks_up, asks_length, reads, finds_block, shows_block, lists_from}
 use Rattle.history.specs.History.{counts_keys, Born, append_in, is_accepted, left, after, play, Entry, entry, logged}
 use Rattle.history.specs.History.{log_of, joined_on, joined, is_joined, among, with_name, names_in, bytes_in}
 use Rattle.history.specs.Due.{shape_of}
@@ -287,10 +287,10 @@ module _ (capacity seed size : ℕ) (table keys lists : List ℕ) (w : World)
   spent-call : (calls : List Call) → Spent (play calls w) (log_of calls w) → (c : Call)
       → Spent (after c (play calls w)) (log_of calls w ++ logged c (play calls w))
   spent-call calls P (appends name bytes) = spent-append calls P name bytes
-  spent-call calls P (looks_up_lem name) = subst (Spent (play calls w)) (sym (append-nil (log_of calls w))) P
-  spent-call calls P (asks_length_lem name) = subst (Spent (play calls w)) (sym (append-nil (log_of calls w))) P
+  spent-call calls P (looks_up name) = subst (Spent (play calls w)) (sym (append-nil (log_of calls w))) P
+  spent-call calls P (asks_length name) = subst (Spent (play calls w)) (sym (append-nil (log_of calls w))) P
   spent-call calls P (reads name output) = subst (Spent (play calls w)) (sym (append-nil (log_of calls w))) P
-  spent-call calls P (finds_block_lem name i) = subst (Spent (play calls w)) (sym (append-nil (log_of calls w))) P
+  spent-call calls P (finds_block name i) = subst (Spent (play calls w)) (sym (append-nil (log_of calls w))) P
   spent-call calls P (shows_block at n) = subst (Spent (play calls w)) (sym (append-nil (log_of calls w))) P
   spent-call calls P (lists_from i) = subst (Spent (play calls w)) (sym (append-nil (log_of calls w))) P
   spent-call calls P counts_keys = subst (Spent (play calls w)) (sym (append-nil (log_of calls w))) P
