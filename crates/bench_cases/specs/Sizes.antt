@@ -2,7 +2,6 @@
 use Rattle.std.specs.Prelude.{ℕ, ◌≡◌, refl, false, List, [], ◌∷◌}
 use Rattle.limits.specs.Limits.{page_limit, arena_limit_for, name_limit_for}
 use Rattle.limits.specs.Refusals.{number_in}
-use Rattle.memory_arena.specs.declared.Arena.{Arena}
 use Rattle.memory_arena.specs.declared.Allocated.{Allocated}
 use Rattle.memory_arena.specs.declared.Allocated.TheVariants.{At, NoRoom, Refused}
 use Rattle.memory_arena.specs.Address.{address_of, page_of, place_of}

@@ -21,7 +21,6 @@ use Rattle.memory_arena.specs.Calls.{sensible}
 use Rattle.memory_arena.proofs.Laws.{sensible_short}
 use Rattle.shared_arena_hashmap.specs.declared.Walk.{Walk}
 use Rattle.records.specs.Record.{key_length, key_at, good_record, value_place, header_of, header_sound}
-use Rattle.shared_arena_hashmap.specs.Probe.{lookup}
 use Rattle.records.proofs.Laws.{good-record-in}
 use Rattle.shared_arena_hashmap.proofs.Laws.{power_facts, lookup-looked}
 use Rattle.expull_header.specs.declared.Header.{Header}

@@ -1,6 +1,6 @@
 -- RULES AF15. How the code comes to the verdict: one lookup a bucket decides faults 2 and 3, and marks in a bit area
 -- decide fault 7. proofs/ shows that this is the verdict of brownout_faults.
-use Rattle.std.specs.Prelude.{ℕ, zero, suc, ◌+◌, ◌-◌, ◌*◌, ◌≤◌, ◌≡◌, true, false, cond, List, ltb, eqb, length}
+use Rattle.std.specs.Prelude.{ℕ, zero, suc, ◌+◌, ◌*◌, ◌≤◌, ◌≡◌, true, false, cond, List, ltb, eqb, length}
 use Rattle.limits.specs.Limits.{arena_limit, record_extra, link_size}
 use Rattle.marks.specs.Bits.{Out as MarksOut, out as marks_out, mark_span}
 use Rattle.memory_arena.specs.declared.Arena.{Arena}

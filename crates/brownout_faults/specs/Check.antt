@@ -1,7 +1,7 @@
 -- RULES AF1 to AF12. Document 02, Eight: "After the whole-state check a tool goes over the lent table and both arenas
 -- and says sound or names the first faulty bucket and there the first fault". Below, each fault of bucket i in the
 -- paper's order, for any state and any lent memory, then the verdict, then the call.
-use Rattle.std.specs.Prelude.{ℕ, zero, suc, ◌+◌, ◌-◌, ◌/◌, ◌%◌, Bool, true, false, cond, ◌&&◌, ◌||◌, not, List, leb, ltb, eqb, length, replicate}
+use Rattle.std.specs.Prelude.{ℕ, zero, suc, ◌+◌, ◌-◌, ◌/◌, Bool, true, false, cond, ◌&&◌, ◌||◌, not, List, leb, ltb, eqb, length, replicate}
 use Rattle.limits.specs.Limits.{fresh_number, record_extra, link_size}
 use Rattle.fastcmp.specs.Equal.{equal_bytes}
 use Rattle.murmurhash2.specs.Murmur.{murmur_hash2}

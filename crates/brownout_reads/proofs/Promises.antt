@@ -21,7 +21,7 @@ use Rattle.store_look.specs.declared.Answer.TheVariants.{Found}
 use Rattle.store_look.specs.declared.Outcome.TheVariants.{Reading}
 use Rattle.store_look.specs.Said.{said_lookup}
 use Rattle.records.specs.Record.{header_of, header_sound}
-use Rattle.store_look.specs.Look.{Lent, lookup_of, blocks_sound, read_at, read_of, reading}
+use Rattle.store_look.specs.Look.{Lent, lookup_of, blocks_sound, read_at, read_of}
 use Rattle.reading_run.specs.Readings.{Split, vints_of, readings_in}
 use Rattle.reading_run.proofs.Split.{refusals_listed}
 use Rattle.readings.specs.declared.Recalled.TheVariants.{Readings, Refused as NotRecalled}

@@ -13,7 +13,7 @@ use Rattle.store_state.specs.declared.State.{State}
 use Rattle.store_append.specs.declared.Appended.{Appended}
 use Rattle.store_append.specs.declared.Appended.TheVariants.{Accepted, Declined}
 use Rattle.store_look.specs.Look.{checked}
-use Rattle.store_append.specs.Append.{Out as AppendOut, declined}
+use Rattle.store_append.specs.Append.{Out as AppendOut}
 use Rattle.store.proofs.Promises.{promises as store_promises}
 use Rattle.history.specs.History.{World, append_in}
 use Rattle.join.specs.Join.{store, Told, lane, broken, told_by, Out, stopped, on_appended, join_lanes, join_of, lanes_in}

@@ -6,12 +6,11 @@ use mathlib.Core.List.{List}
 use Rattle.numbers.specs.LittleEndian.{Bytes}
 use Rattle.numbers.proofs.Tests.{both}
 use Rattle.spans.specs.Span.{overwrite}
-use Rattle.store_state.specs.declared.State.{State}
 use Rattle.store_look.specs.Look.{Lent}
 use Rattle.history.specs.History.{World}
 use Rattle.join.specs.declared.Joined.{Joined}
 use Rattle.join.specs.declared.Joined.TheVariants.{Whole, Halted}
-use Rattle.join.specs.Join.{store, Out, lanes_in}
+use Rattle.join.specs.Join.{store, lanes_in}
 use Rattle.state_area.specs.Area.{sensible_area, state_at, area_of}
 use Rattle.state_area.proofs.Laws.{sensible-long}
 use Rattle.state_area.proofs.Promises.{promises as area_promises}

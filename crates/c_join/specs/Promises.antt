@@ -9,7 +9,7 @@ use Rattle.join.specs.declared.Joined.TheVariants.{Whole, Halted}
 use Rattle.join.specs.Join.{store, Out, join_of, lanes_in}
 use Rattle.state_area.specs.Area.{sensible_area, state_at}
 use Rattle.c_told.specs.Told.{says}
-use Rattle.c_join.specs.Joined.{Joining, joining, join_in}
+use Rattle.c_join.specs.Joined.{joining, join_in}
 
 -- RULES AK12. The state that a join gave.
 abbrev pub state_in : Joined → State

@@ -16,9 +16,9 @@ use Rattle.store_look.specs.declared.Outcome.{Outcome}
 use Rattle.store_look.specs.declared.Outcome.TheVariants.{Length, Reading, Block, NoSuchBlock}
 use Rattle.store_look.specs.declared.Answer.{Answer}
 use Rattle.store_look.specs.declared.Answer.TheVariants.{Absent, Found, Refused}
-use Rattle.store_create.specs.Create.{Out as Creation, create_of}
-use Rattle.store_look.specs.Look.{Lent, length_of, Read, read_of}
-use Rattle.store_append.specs.Append.{Out as Appending, append_of}
+use Rattle.store_create.specs.Create.{Out as Creation}
+use Rattle.store_look.specs.Look.{Lent, Read}
+use Rattle.store_append.specs.Append.{Out as Appending}
 
 -- Two answers that have no number of document 01.
 abbrev pub absent_word : ℕ

@@ -10,7 +10,7 @@ use native.Mathlib.Numerals.{one-add}
 use native.Mathlib.Omega.{arith}
 use lib.Dec.{eqb, eqb-suc-zero}
 use lib.ListN.{length, length-append}
-use borrow.Author.Tests.{eq-eqb, ne_eqb, eqb-true, eqb-false, leb-true}
+use borrow.Author.Tests.{eq-eqb, ne_eqb, eqb-true, eqb-false}
 use Rattle.limits.specs.Limits.{null_address, arena_limit, fresh_number, link_size}
 use Rattle.numbers.specs.LittleEndian.{le_bytes}
 use Rattle.spans.specs.Span.{overwrite}

@@ -22,7 +22,7 @@ use Rattle.expull_walk.specs.declared.Walked.TheVariants.{To, Stopped}
 use Rattle.expull_walk.specs.Blocks.{block_place, good_blocks, full_blocks, lane_bytes, walk_of}
 use Rattle.expull_walk.proofs.Laws.{good_block, blocks_more, place-more, blocks_fewer, block_good}
 use Rattle.expull_walk.proofs.Laws.{bad_block_stays, block_in_lem, full-within, length-full, last_of}
-use Rattle.expull_header.proofs.Parts.{length_part, part_span}
+use Rattle.expull_header.proofs.Parts.{part_span}
 
 -- ---- the walk's loop
 

@@ -6,7 +6,6 @@ use mathlib.Core.Bool.{cond}
 use mathlib.Core.Option.{Option}
 use mathlib.Core.List.{List, [], ◌∷◌, ◌++◌, append_assoc}
 use Rattle.fastcmp.specs.Equal.{equal_bytes}
-use Rattle.store_state.specs.declared.State.{State}
 use Rattle.store_append.specs.declared.Appended.{Appended}
 use Rattle.store_append.specs.declared.Appended.TheVariants.{Accepted, Declined}
 use Rattle.store_append.specs.Append.{Out}

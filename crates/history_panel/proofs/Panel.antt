@@ -1,8 +1,8 @@
 -- The panel's numbers, from the lane's bytes and the number reader's promises. Assumes nothing.
-use Prim.Native.Nat.{ℕ, ◌≤◌, ◌^◌}
-use mathlib.Core.Path.{◌≡◌, refl, sym, ap, ◌∙◌, subst}
+use Prim.Native.Nat.{ℕ, ◌≤◌}
+use mathlib.Core.Path.{◌≡◌, refl, sym, ap, ◌∙◌}
 use mathlib.Core.Bool.{Bool}
-use mathlib.Core.Option.{Option, none, some}
+use mathlib.Core.Option.{none}
 use mathlib.Core.List.{List, [], ◌∷◌, ◌++◌, map}
 use native.Mathlib.Nat.{le_refl}
 use native.Mathlib.Omega.{arith}
@@ -12,7 +12,7 @@ use Rattle.limits.specs.Limits.{fed_limit}
 use Rattle.signed.specs.Signed.{difference, stored}
 use Rattle.signed.proofs.Laws.{stored-fits, difference-fits}
 use Rattle.vint.specs.Vint.{write_vint}
-use Rattle.reading_run.specs.Readings.{reading_bytes, readings_bytes}
+use Rattle.reading_run.specs.Readings.{readings_bytes}
 use Rattle.reading_run.proofs.Back.{stored_from, stored_readings}
 use Rattle.number_pieces.specs.Feed.{holding, fresh}
 use Rattle.number_pieces.specs.Cut.{Piece, HasPlaces, EachHasPlaces, joined as bytes_of, goes_on, got, calls_of}
@@ -21,7 +21,7 @@ use Rattle.number_pieces.proofs.Calls.{cut_anywhere, fresh-takes, written_back}
 use Rattle.history.specs.History.{World, joined}
 use Rattle.history_readings.specs.Steps.{Step, call_of, accepted_for, HandedOn, readings_among}
 use Rattle.history_readings.proofs.Joined.{steps-joined, handed_signed, come_to, handed_joined}
-use Rattle.history_pieces.specs.Going.{Turn, calls_in, gathered, lane_of}
+use Rattle.history_pieces.specs.Going.{gathered, lane_of}
 use Rattle.history_panel.specs.Panel.{PanelReads}
 
 -- ---- readings' bytes are the vints of the numbers that they are stored as

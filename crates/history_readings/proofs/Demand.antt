@@ -15,20 +15,20 @@ use Rattle.expull_walk.specs.Blocks.{lane_bytes}
 use Rattle.store_state.specs.Name.{name_limit_of}
 use Rattle.records.specs.Record.{header_of}
 use Rattle.store_look.specs.Look.{blocks_sound}
-use Rattle.reading_run.specs.Readings.{reading_bytes, readings_bytes, AllSigned, Split, split, vints_of, readings_in}
+use Rattle.reading_run.specs.Readings.{readings_bytes, AllSigned, Split, split, vints_of, readings_in}
 use Rattle.reading_run.proofs.Back.{stored_from, written_splits, stored_readings, stored_count}
 use Rattle.reading_run.proofs.Split.{among-behind, refusals_listed}
-use Rattle.readings.specs.declared.Recalled.TheVariants.{Readings, Absent, Refused}
+use Rattle.readings.specs.declared.Recalled.TheVariants.{Readings, Refused}
 use Rattle.readings.specs.Readings.{Out, out, at_front, on_split, readings_at}
 use Rattle.readings.specs.Said.{said_recalled}
 use Rattle.readings.proofs.Found.{readings_at_lem, readings_none, readings_failed}
 use Rattle.readings.proofs.Fronts.{reading_is}
-use Rattle.history.specs.History.{World, Born, Call, play, joined}
-use Rattle.history.specs.Promises.{ReadsAs, ReadsBack}
+use Rattle.history.specs.History.{World, Born, play, joined}
+use Rattle.history.specs.Promises.{ReadsAs}
 use Rattle.history.specs.Demand.{Demand3}
 use Rattle.history.proofs.Demand.{demand_3}
 use Rattle.history_readings.specs.Steps.{Step, call_of, accepted_for, HandedOn, readings_among}
-use Rattle.history_readings.specs.Demand.{recalled_in, GivesReadings, ReadsReadings, recalled_by, ReadingsDemand}
+use Rattle.history_readings.specs.Demand.{recalled_in, ReadsReadings, recalled_by, ReadingsDemand}
 use Rattle.history_readings.proofs.Joined.{steps-joined, handed_signed, come_to, handed_joined}
 
 -- ---- a lane, by what it has come to

@@ -1,17 +1,15 @@
 -- The theorem on the history of specs/Cases.antt. Assumes nothing.
-use Prim.Native.Nat.{◌^◌, ◌<◌}
 use mathlib.Core.Path.{◌≡◌, refl, sym, subst}
-use mathlib.Core.List.{List, [], ◌∷◌, map}
+use mathlib.Core.List.{[], ◌∷◌, map}
 use native.Mathlib.Omega.{arith}
 use lib.Dec.{lit<}
 use lib.ListN.{replicate}
-use lib.IntN.{ℤ, pos, negsuc}
-use Rattle.signed.specs.Signed.{Signed32}
+use lib.IntN.{pos, negsuc}
 use Rattle.readings.specs.declared.Recalled.TheVariants.{Readings, Refused}
 use Rattle.readings.specs.Readings.{out}
 use Rattle.history.specs.History.{play}
 use Rattle.history.specs.Cases.{lane_a, start, born}
-use Rattle.history_readings.specs.Steps.{Item, call_of, accepted_for, HandedOn}
+use Rattle.history_readings.specs.Steps.{call_of, accepted_for, HandedOn}
 use Rattle.history_readings.specs.Demand.{recalled_in, ReadsReadings, GivesReadings, ReadingsDemand}
 use Rattle.history_readings.specs.Cases.{lowest, steps, six, accepted_cases}
 use Rattle.history_readings.proofs.Demand.{readings_demand}

@@ -11,9 +11,8 @@ use borrow.Author.Tests.{eqb-true, eqb-false}
 use Rattle.memory_arena.specs.declared.Arena.{Arena}
 use Rattle.shared_arena_hashmap.specs.declared.Seen.{Seen}
 use Rattle.shared_arena_hashmap.specs.declared.Seen.TheVariants.{Nothing, Same, Broken, Other}
-use Rattle.shared_arena_hashmap.specs.declared.Met.TheVariants.{Lap}
 use Rattle.shared_arena_hashmap.specs.declared.Walk.{Walk}
-use Rattle.shared_arena_hashmap.specs.Probe.{seen_at, next_bucket, walked, on_seen, probe}
+use Rattle.shared_arena_hashmap.specs.Probe.{seen_at, next_bucket, on_seen, probe}
 use Rattle.shared_arena_hashmap.proofs.Room.{next-mod, next-below}
 use Rattle.history_walks.specs.Walks.{last_met}
 

@@ -1,12 +1,11 @@
 -- What the walk told is: its place in the probe order on any memory, and few in a history. Assumes nothing.
-use Prim.Native.Nat.{ℕ, zero, suc, ◌+◌, ◌%◌, ◌≤◌, ◌<◌}
+use Prim.Native.Nat.{ℕ, zero, suc, ◌+◌, ◌≤◌, ◌<◌}
 use mathlib.Core.Path.{◌≡◌, refl, sym, ap, ◌∙◌}
-use mathlib.Core.Bool.{Bool, true, false, cond}
+use mathlib.Core.Bool.{Bool, true, false}
 use mathlib.Core.List.{List, []}
 use native.Mathlib.Omega.{arith}
 use lib.ListN.{length}
 use Rattle.murmurhash2.specs.Murmur.{murmur_hash2}
-use Rattle.shared_arena_hashmap.specs.declared.Walk.{Walk}
 use Rattle.shared_arena_hashmap.specs.Probe.{start_of, probe, lookup}
 use Rattle.shared_arena_hashmap.proofs.Room.{start-below}
 use Rattle.shared_arena_hashmap.proofs.Laws.{power_facts}
@@ -14,8 +13,8 @@ use Rattle.store_state.specs.declared.State.{State}
 use Rattle.store_state.specs.declared.Name.{Name}
 use Rattle.store_state.specs.declared.Name.TheVariants.{TooLong, Nameless, Proper}
 use Rattle.store_state.specs.State.{first_of}
-use Rattle.store_state.specs.Name.{name_kind, by_kind}
-use Rattle.store_look.specs.Look.{Lent, checked, walk_of, lookup_of, looked_of, on_met}
+use Rattle.store_state.specs.Name.{name_kind}
+use Rattle.store_look.specs.Look.{Lent, checked, walk_of, looked_of, on_met}
 use Rattle.store_look.proofs.Found.{lookup-met, looked_2, looked_3, looked-nameless, looked-walk}
 use Rattle.store_state.proofs.Guard.{kind-nameless}
 use Rattle.store_state.proofs.Whole.{whole_facts}

@@ -1,7 +1,7 @@
 -- Laws of what to lend, by the tests of the code. Assumes nothing.
 use Prim.Native.Nat.{ℕ, ◌+◌, ◌-◌, ◌*◌, ◌/◌, ◌%◌, ◌≤◌, ◌<◌}
 use mathlib.Core.Path.{◌≡◌}
-use mathlib.Core.Bool.{Bool, true, false, ◌&&◌}
+use mathlib.Core.Bool.{true, false, ◌&&◌}
 use native.Mathlib.Nat.{mul-le-mul, div-le_self, le-div_iff_mul-le, mod-le}
 use native.Mathlib.Omega.{arith}
 use lib.Dec.{leb}

@@ -4,7 +4,7 @@ use mathlib.Core.Path.{◌≡◌, refl, sym, ap, ◌∙◌}
 use mathlib.Core.List.{List, [], ◌∷◌, ◌++◌}
 use native.Mathlib.Nat.{add-zero, add_assoc}
 use native.Mathlib.Omega.{arith}
-use lib.ListN.{length, take, drop, get_or, length-drop, take-append-drop}
+use lib.ListN.{length, drop, get_or, length-drop, take-append-drop}
 use lib.Seq.{drop-drop, get_or-drop}
 use lib.Bits.{bit_xor}
 use Rattle.numbers.specs.Wrap.{wrap_mul}

@@ -1,18 +1,18 @@
 -- Readings written one after the other read back. Assumes nothing.
-use Prim.Native.Nat.{ℕ, zero, suc, ◌+◌, ◌≤◌, ◌<◌, ◌^◌}
-use mathlib.Core.Path.{◌≡◌, refl, sym, ap, ◌∙◌}
+use Prim.Native.Nat.{ℕ, zero, suc, ◌≤◌, ◌<◌, ◌^◌}
+use mathlib.Core.Path.{◌≡◌, refl, ap, ◌∙◌}
 use mathlib.Core.List.{List, [], ◌∷◌, ◌++◌}
 use native.Mathlib.Nat.{le_refl}
 use native.Mathlib.Omega.{arith}
 use lib.ListN.{length, length-append}
-use lib.IntN.{ℤ, pos}
+use lib.IntN.{ℤ}
 use Rattle.vint.specs.declared.Unvint.{Unvint}
 use Rattle.vint.specs.Vint.{write_vint}
 use Rattle.vint.proofs.Laws.{vint_length}
 use Rattle.vint.proofs.Forms.{read_back}
-use Rattle.signed.specs.Signed.{Signed32, difference, following, stored}
+use Rattle.signed.specs.Signed.{Signed32, difference, stored}
 use Rattle.signed.proofs.Laws.{stored-fits, difference-fits, following-stored}
-use Rattle.reading_run.specs.Readings.{reading_bytes, readings_bytes, AllSigned, split, in_front, on_vint, split_up}
+use Rattle.reading_run.specs.Readings.{readings_bytes, AllSigned, split, in_front, on_vint, split_up}
 use Rattle.reading_run.specs.Readings.{vints_of, readings_from}
 use Rattle.reading_run.proofs.Split.{drop-front, split_step, split_none}
 

@@ -25,7 +25,6 @@ use Rattle.store_look.proofs.Fair.{fair-lookup}
 use Rattle.records.proofs.Laws.{Headed}
 use Rattle.reading_run.specs.Readings.{Split, vints_of, readings_in}
 use Rattle.reading_run.proofs.Split.{among-front, among-behind, refusals_listed}
-use Rattle.readings.specs.declared.Recalled.{Recalled}
 use Rattle.readings.specs.declared.Recalled.TheVariants.{Readings, Absent, Refused}
 use Rattle.readings.specs.Readings.{Out, out, at_front, on_split, readings_at, not_found, on_lookup, readings_of}
 use Rattle.readings.specs.Said.{said_recalled}

@@ -23,7 +23,7 @@ use Rattle.store_look.proofs.Fair.{fair-lookup}
 use Rattle.store.proofs.Promises.{promises as store-promises}
 use Rattle.reading_run.specs.Readings.{reading_bytes, Split, vints_of, readings_in}
 use Rattle.reading_run.proofs.Split.{refusals_listed}
-use Rattle.readings.specs.declared.Recalled.TheVariants.{Readings, Absent, Refused}
+use Rattle.readings.specs.declared.Recalled.TheVariants.{Readings, Refused}
 use Rattle.readings.specs.Readings.{Out, out, at_front, on_split, readings_at, on_lookup, readings_of, append_reading_of}
 use Rattle.readings.specs.Said.{said_recalled}
 use Rattle.readings.specs.Promises.{Promises}

@@ -1,6 +1,6 @@
 -- RULES M4, M5, V3. Document 01, "Buckets": "A record is the key length as 2 little-endian bytes, the key, a 16-byte
 -- value". The key is a lane's name, the value the header of its list.
-use Rattle.std.specs.Prelude.{ℕ, ◌+◌, ◌-◌, Bool, cond, ◌&&◌, List, ◌++◌, length}
+use Rattle.std.specs.Prelude.{ℕ, ◌+◌, Bool, cond, ◌&&◌, List, ◌++◌, length}
 use Rattle.limits.specs.Limits.{record_extra}
 use Rattle.numbers.specs.LittleEndian.{le_number, le_bytes}
 use Rattle.spans.specs.Span.{read_span}

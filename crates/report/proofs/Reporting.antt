@@ -1,6 +1,6 @@
 -- Laws of the writer's call. Assumes nothing.
 use Prim.Native.Nat.{ℕ, zero, suc, ◌+◌, ◌≤◌, ◌<◌}
-use mathlib.Core.Path.{◌≡◌, refl, sym, ap, ◌∙◌, subst}
+use mathlib.Core.Path.{◌≡◌, refl, sym, ap, ◌∙◌}
 use mathlib.Core.Bool.{Bool, true, false, cond, ◌||◌, false≢true}
 use mathlib.Core.List.{List, [], ◌∷◌, ◌++◌, append_assoc}
 use native.Mathlib.Omega.{arith}
@@ -11,14 +11,14 @@ use lib.ListN.{length, length-append}
 use borrow.Author.Tests.{le-leb, lt-leb}
 use Rattle.limits.specs.Refusals.{listing_buckets, reporting, refusal_numbers, is_among, permitted}
 use Rattle.spans.specs.Span.{overwrite}
-use Rattle.spans.proofs.Laws.{length-overwrite, overwrite-append}
+use Rattle.spans.proofs.Laws.{overwrite-append}
 use Rattle.store_state.specs.declared.State.{State}
 use Rattle.store_look.specs.declared.Listed.{Listed}
 use Rattle.store_look.specs.declared.Listed.TheVariants.{Bucket, NoMore, Stopped}
 use Rattle.store_look.specs.Look.{Lent, checked, blocks_sound, next_of}
 use Rattle.store_look.specs.Said.{said_listed}
 use Rattle.store_look.proofs.Fair.{fair-next}
-use Rattle.report_text.specs.Text.{Lane as TextLane, newline, store_line, terms_word, total_word, end_line, total_of}
+use Rattle.report_text.specs.Text.{Lane as TextLane, newline, end_line, total_of}
 use Rattle.report_text.specs.Text.{decimal, lanes_text, head_text, report_text}
 use Rattle.report_lanes.specs.contracts.Measured.{the_type}
 use Rattle.report_lanes.specs.declared.Measured.{Measured}

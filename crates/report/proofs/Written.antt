@@ -1,7 +1,7 @@
 -- Laws of the writer's second pass. Assumes nothing.
-use Prim.Native.Nat.{ℕ, zero, suc, ◌+◌, ◌-◌, ◌*◌, ◌≤◌, ◌<◌}
-use mathlib.Core.Path.{◌≡◌, refl, sym, ap, ◌∙◌, subst}
-use mathlib.Core.Bool.{Bool, true, false}
+use Prim.Native.Nat.{ℕ, zero, suc, ◌+◌, ◌-◌, ◌≤◌, ◌<◌}
+use mathlib.Core.Path.{◌≡◌, refl, sym, ap, ◌∙◌}
+use mathlib.Core.Bool.{true}
 use mathlib.Core.List.{List, [], ◌∷◌, ◌++◌, append_assoc, append-nil}
 use native.Mathlib.Omega.{arith}
 use lib.ListN.{length, take, drop, length-append, length-take, length-drop}
@@ -12,7 +12,6 @@ use Rattle.numbers.proofs.Tests.{both}
 use Rattle.spans.specs.Span.{read_span, overwrite}
 use Rattle.spans.proofs.Laws.{length-overwrite, length_span, span_within, read_written, overwrite-all, overwrite-append}
 use Rattle.spans.proofs.Laws.{overwrite_none, part_back}
-use Rattle.expull_header.specs.declared.Header.{Header}
 use Rattle.expull_header.specs.Header.{lane_length, block_count}
 use Rattle.expull_walk.specs.Blocks.{good_blocks, lane_bytes}
 use Rattle.expull_walk.proofs.Laws.{lane-bytes-length}

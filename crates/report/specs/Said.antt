@@ -1,5 +1,5 @@
 -- RULES X7. What the writer's answer says: the report's bytes, or a refusal's number; 8 tells the bytes needed.
-use Rattle.std.specs.Prelude.{ℕ, List, [], ◌∷◌}
+use Rattle.std.specs.Prelude.{[], ◌∷◌}
 use Rattle.limits.specs.Refusals.{Said, answered, refused, a_report}
 use Rattle.store_look.specs.Said.{told_with}
 use Rattle.report.specs.declared.Reported.{Reported}

@@ -1,12 +1,11 @@
 -- The theorem, from demand 3 and the round trip. Assumes nothing.
 use Prim.Native.Nat.{ℕ, zero, suc, ◌+◌, ◌*◌, ◌≤◌, ◌<◌}
 use mathlib.Core.Path.{◌≡◌, refl, sym, ap, ◌∙◌, subst}
-use mathlib.Core.Logic.{◌⊎◌, inl, inr, ⊎_elim}
-use mathlib.Core.Bool.{Bool, true, false, cond}
+use mathlib.Core.Logic.{⊎_elim}
+use mathlib.Core.Bool.{Bool, true, false}
 use mathlib.Core.Option.{Option, none, some}
 use mathlib.Core.List.{List, [], ◌∷◌, map}
 use native.Mathlib.Omega.{arith}
-use lib.Dec.{leb}
 use lib.ListN.{length, length-map}
 use borrow.Author.Tests.{le-leb, lt-leb}
 use Rattle.limits.specs.Limits.{name_limit, bucket_limit, name-within}
@@ -14,9 +13,8 @@ use Rattle.numbers.specs.LittleEndian.{Bytes}
 use Rattle.spans.specs.Span.{read_span, overwrite}
 use Rattle.spans.proofs.Laws.{read_written}
 use Rattle.records.specs.Record.{key_at, header_of}
-use Rattle.expull_header.specs.Header.{lane_length}
 use Rattle.expull_walk.specs.Blocks.{lane_bytes}
-use Rattle.store_look.specs.declared.Lookup.TheVariants.{At, Missing, Failed}
+use Rattle.store_look.specs.declared.Lookup.TheVariants.{At}
 use Rattle.store_look.specs.declared.Listed.{Listed}
 use Rattle.store_look.specs.declared.Listed.TheVariants.{Bucket, NoMore, Stopped}
 use Rattle.store_state.specs.Name.{name_limit_of}
@@ -27,15 +25,15 @@ use Rattle.history.specs.History.{World, Call, Born, play, joined, among, accept
 use Rattle.history.specs.Promises.{listed_on, listed_from, listed_places, listed_names, ReadsAs}
 use Rattle.history.specs.Demand.{Demand3}
 use Rattle.history.proofs.Demand.{demand_3}
-use Rattle.report_text.specs.Text.{Lane, lane, total_of, report_text}
+use Rattle.report_text.specs.Text.{Lane, total_of, report_text}
 use Rattle.report_text.specs.Reader.{lanes, text_read}
-use Rattle.report_text.specs.Reportable.{Fits, EachFits, Reportable}
+use Rattle.report_text.specs.Reportable.{EachFits, Reportable}
 use Rattle.report_text.proofs.Round.{round_trip}
 use Rattle.report_text.proofs.Values.{below_or}
 use Rattle.report_read.specs.Counted.{checked_of}
-use Rattle.report_lanes.specs.Lanes.{Gathered, gathered, halted, lane_before, lane_at, on_listed, gather_from, gather_all}
+use Rattle.report_lanes.specs.Lanes.{gathered, lane_at, on_listed, gather_from, gather_all}
 use Rattle.report_lanes.proofs.Measuring.{sound-lane_most}
-use Rattle.report.specs.declared.Reported.TheVariants.{Written, Refused}
+use Rattle.report.specs.declared.Reported.TheVariants.{Written}
 use Rattle.report.specs.Report.{Out, out, on_gathered, report_of}
 use Rattle.report_history.specs.Promises.{EachJoined, ReportsBack}
 use Rattle.report_history.proofs.Bytes.{bytes_key, bytes-lane}

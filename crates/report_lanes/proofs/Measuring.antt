@@ -1,7 +1,7 @@
 -- Laws of the writer's first pass. Assumes nothing.
-use Prim.Native.Nat.{ℕ, zero, suc, ◌+◌, ◌-◌, ◌*◌, ◌/◌, ◌%◌, ◌^◌, ◌≤◌, ◌<◌}
-use mathlib.Core.Path.{◌≡◌, refl, sym, ap, ◌∙◌, subst}
-use mathlib.Core.Bool.{Bool, true, false, cond, ◌&&◌, false≢true}
+use Prim.Native.Nat.{ℕ, zero, suc, ◌+◌, ◌-◌, ◌*◌, ◌/◌, ◌%◌, ◌≤◌, ◌<◌}
+use mathlib.Core.Path.{◌≡◌, refl, sym, ap, ◌∙◌}
+use mathlib.Core.Bool.{Bool, true, false, cond, ◌&&◌}
 use mathlib.Core.List.{List, [], ◌∷◌, ◌++◌}
 use native.Mathlib.Omega.{arith}
 use types.Run.{OneOf, miss}
@@ -9,18 +9,15 @@ use denote.Enum.Declared.{tag_of}
 use lib.Dec.{leb, ltb}
 use lib.ListN.{length, length-append}
 use Rattle.limits.specs.Limits.{record_extra, bucket_limit}
-use Rattle.numbers.proofs.Tests.{both, both_true, left_false, right_false}
-use Rattle.spans.specs.Span.{read_span, overwrite}
+use Rattle.numbers.proofs.Tests.{both}
+use Rattle.spans.specs.Span.{overwrite}
 use Rattle.spans.proofs.Laws.{length_span}
-use Rattle.memory_arena.specs.declared.Arena.{Arena}
-use Rattle.memory_arena.specs.Calls.{sensible}
 use Rattle.shared_arena_hashmap.specs.declared.Next.{Next}
 use Rattle.shared_arena_hashmap.specs.declared.Next.TheVariants.{Occupied, NoMore as NoBucket}
 use Rattle.shared_arena_hashmap.specs.Buckets.{empty_at, address_at}
 use Rattle.records.specs.Record.{key_length, key_at, good_record, value_place, header_of, header_sound}
 use Rattle.shared_arena_hashmap.specs.Probe.{occupied_from}
-use Rattle.records.proofs.Laws.{good-record-in, Headed, head-found, head-sound}
-use Rattle.expull_header.specs.declared.Header.{Header}
+use Rattle.records.proofs.Laws.{good-record-in, head-found, head-sound}
 use Rattle.expull_header.specs.Header.{sound_header, lane_length, block_count}
 use Rattle.expull_walk.specs.Blocks.{good_blocks, lane_bytes}
 use Rattle.expull_header.proofs.Laws.{length_most}
@@ -35,7 +32,7 @@ use Rattle.store_state.specs.State.{first_of}
 use Rattle.store_look.specs.Look.{Lent, checked, blocks_sound, Read, reading, read_at, on_next, next_of}
 use Rattle.store_look.proofs.Found.{next-on}
 use Rattle.store_state.proofs.Whole.{whole_facts, buckets_few}
-use Rattle.report_text.specs.Text.{Lane as TextLane, hex, digits, decimal, total_of, lane_text, lanes_text}
+use Rattle.report_text.specs.Text.{Lane as TextLane, digits, decimal, total_of, lane_text, lanes_text}
 use Rattle.report_text.proofs.Values.{hex-length}
 use Rattle.report_lanes.specs.contracts.NextLane.{the_type}
 use Rattle.report_lanes.specs.declared.NextLane.{NextLane}

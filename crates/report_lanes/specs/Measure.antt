@@ -1,6 +1,6 @@
 -- RULES AA17. The writer's first pass, as the code goes: every lane is met, and the text measured, before the output
 -- matters; and what the second pass may rely on.
-use Rattle.std.specs.Prelude.{ℕ, ◌+◌, ◌*◌, ◌^◌, ◌≤◌, ◌<◌, ◌≡◌, true, cond, List, eqb, length}
+use Rattle.std.specs.Prelude.{ℕ, ◌+◌, ◌*◌, ◌^◌, ◌≤◌, ◌<◌, ◌≡◌, true, cond, eqb, length}
 use Rattle.memory_arena.specs.Calls.{sensible}
 use Rattle.records.specs.Record.{key_length, value_place, header_of}
 use Rattle.expull_header.specs.Header.{lane_length}

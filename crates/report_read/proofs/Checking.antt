@@ -1,20 +1,20 @@
 -- Laws of the check's loop and of its dispatch. Assumes nothing.
-use Prim.Native.Nat.{ℕ, zero, suc, ◌+◌, ◌-◌, ◌*◌, ◌≤◌, ◌<◌, zero-le}
+use Prim.Native.Nat.{ℕ, suc, ◌+◌, ◌-◌, ◌*◌, ◌≤◌, ◌<◌, zero-le}
 use mathlib.Core.Path.{◌≡◌, refl, sym, ap, ◌∙◌, subst}
 use mathlib.Core.Bool.{Bool, true, false, cond, ◌&&◌, not}
 use mathlib.Core.Option.{Option, none, some}
-use mathlib.Core.List.{List, [], ◌∷◌, ◌++◌}
+use mathlib.Core.List.{List, [], ◌∷◌}
 use native.Mathlib.Numerals.{add-one}
 use native.Mathlib.Omega.{arith}
-use lib.Dec.{leb, ltb, eqb}
+use lib.Dec.{leb, eqb}
 use lib.ListN.{length, take, drop, length-drop}
-use borrow.Author.Tests.{eq-eqb, ne_eqb}
+use borrow.Author.Tests.{ne_eqb}
 use Rattle.limits.specs.Limits.{name_limit}
 use Rattle.limits.specs.Refusals.{unreporting, permitted}
 use Rattle.fastcmp.specs.Equal.{equal_bytes}
 use Rattle.marks.specs.Bits.{out}
 use Rattle.report_text.specs.Text.{store_line, terms_word, total_word, term_word, len_word, bytes_word, end_line}
-use Rattle.report_text.specs.Reader.{Lines, ended, unended, lines_of, number_in, bytes_in, Told, lanes, bad, text_read}
+use Rattle.report_text.specs.Reader.{ended, lines_of, number_in, bytes_in, Told, lanes, bad, text_read}
 use Rattle.report_text.specs.Values.{hexed_of}
 use Rattle.report_read.specs.declared.check.Progress.{Progress}
 use Rattle.report_read.specs.declared.check.Line.{Line}

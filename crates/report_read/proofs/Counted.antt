@@ -1,12 +1,12 @@
 -- The reader by counts answers what the reader says, without its lanes; and where it says lanes, they stand in the text
 -- one behind the other. Assumes nothing.
-use Prim.Native.Nat.{ℕ, zero, suc, ◌+◌, ◌-◌, ◌*◌, ◌≤◌, ◌<◌}
+use Prim.Native.Nat.{ℕ, zero, suc, ◌+◌, ◌-◌, ◌*◌, ◌≤◌}
 use mathlib.Core.Path.{◌≡◌, refl, sym, ap, ◌∙◌, subst}
 use mathlib.Core.Bool.{Bool, true, false, cond, ◌&&◌, not}
 use mathlib.Core.Option.{Option, none, some}
 use mathlib.Core.List.{List, [], ◌∷◌, ◌++◌}
 use native.Mathlib.Omega.{arith}
-use lib.Dec.{leb, ltb, eqb}
+use lib.Dec.{leb, eqb}
 use lib.ListN.{length, drop, length-append}
 use borrow.Author.Tests.{le-ltb, ne_eqb, eqb-true}
 use Rattle.limits.specs.Limits.{name_limit}
@@ -26,7 +26,7 @@ use Rattle.report_read.specs.declared.check.Line.{Line}
 use Rattle.report_read.specs.declared.check.Line.TheVariants.{Good, Bad}
 use Rattle.report_read.specs.declared.check.Checked.{Checked}
 use Rattle.report_read.specs.declared.check.Checked.TheVariants.{Lanes, Refused}
-use Rattle.report_read.specs.Lines.{line_length, line_end, line_at, next_line, ahead, or_zero, length_told, next_lane}
+use Rattle.report_read.specs.Lines.{line_length, line_at, next_line, ahead, or_zero, length_told, next_lane}
 use Rattle.report_read.specs.Lines.{lanes_on, first_lane}
 use Rattle.report_read.specs.Counted.{seen_among, progress, good_if, on_number, on_bytes, store_counted, terms_counted}
 use Rattle.report_read.specs.Counted.{total_counted, name_counted, end_counted, lane_counted, length_counted}

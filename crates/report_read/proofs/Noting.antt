@@ -1,16 +1,16 @@
 -- The notes: a name seen before finds its place taken. Assumes nothing.
-use Prim.Native.Nat.{ℕ, zero, suc, ◌+◌, ◌*◌, ◌%◌, ◌<◌}
+use Prim.Native.Nat.{ℕ, ◌*◌, ◌%◌, ◌<◌}
 use mathlib.Core.Path.{◌≡◌, refl, sym, ap, ◌∙◌, subst}
 use mathlib.Core.Bool.{Bool, true, false, cond, ◌&&◌, not}
 use mathlib.Core.Option.{Option, none, some}
 use mathlib.Core.List.{List, [], ◌∷◌, ◌++◌}
 use native.Mathlib.Omega.{arith}
 use native.Mathlib.Decide.{ℕ_discrete}
-use lib.Dec.{leb, eqb, lit<}
+use lib.Dec.{leb, eqb}
 use lib.ListN.{length}
-use borrow.Author.Tests.{eq-eqb, ne_eqb, eqb-true}
+use borrow.Author.Tests.{ne_eqb}
 use Rattle.limits.specs.Limits.{name_limit}
-use Rattle.numbers.proofs.Tests.{both, not_both}
+use Rattle.numbers.proofs.Tests.{not_both}
 use Rattle.fastcmp.specs.Equal.{equal_bytes}
 use Rattle.fastcmp.proofs.Laws.{equal_true}
 use Rattle.murmurhash2.specs.Murmur.{murmur_hash2}
@@ -19,7 +19,7 @@ use Rattle.marks.proofs.Laws.{length_mark, mark_here, mark_other}
 use Rattle.report_text.specs.Text.{Lane, lane, total_of, store_line, terms_word, total_word, term_word, len_word, bytes_word}
 use Rattle.report_text.specs.Text.{end_line, hex}
 use Rattle.report_text.specs.Reader.{Lines, ended, lines_of, and_then, number_in, bytes_in, named, Expects, a_store, a_terms}
-use Rattle.report_text.specs.Reader.{a_total, a_lane, a_length, some_bytes, nothing, provided, name_taken, end_taken}
+use Rattle.report_text.specs.Reader.{a_total, a_lane, a_length, some_bytes, nothing, name_taken, end_taken}
 use Rattle.report_text.specs.Reader.{bytes_taken, line_read}
 use Rattle.report_text.specs.Values.{hexed_of}
 use Rattle.report_text.specs.declared.fields.Hexed.TheVariants.{Bytes}
@@ -27,7 +27,7 @@ use Rattle.report_text.proofs.Forms.{bytes_form}
 use Rattle.report_text.proofs.Exact.{then_some, provided_some}
 use Rattle.report_read.specs.declared.check.Progress.{Progress}
 use Rattle.report_read.specs.declared.check.Line.{Line}
-use Rattle.report_read.specs.declared.check.Line.TheVariants.{Good, Bad}
+use Rattle.report_read.specs.declared.check.Line.TheVariants.{Good}
 use Rattle.report_read.specs.Lines.{first_lane}
 use Rattle.report_read.specs.Counted.{seen_among, progress, line_counted}
 use Rattle.report_read.specs.Noted.{note_of, noted_of, Vouched}

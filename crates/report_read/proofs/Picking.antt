@@ -1,5 +1,5 @@
 -- Laws of a lane's parts. Assumes nothing.
-use Prim.Native.Nat.{ℕ, zero, suc, ◌+◌, ◌-◌, ◌*◌, ◌≤◌, ◌<◌}
+use Prim.Native.Nat.{ℕ, zero, suc, ◌+◌, ◌-◌, ◌≤◌, ◌<◌}
 use mathlib.Core.Path.{◌≡◌, refl, sym, ap, ◌∙◌, subst}
 use mathlib.Core.Bool.{Bool, true, false, cond}
 use mathlib.Core.Option.{some}
@@ -16,7 +16,6 @@ use Rattle.report_text.specs.Text.{Lane, term_word, bytes_word, hex}
 use Rattle.report_text.specs.Reader.{Told, lanes, bad, bytes_in, bytes_of, text_read}
 use Rattle.report_text.proofs.Values.{hex_back}
 use Rattle.report_text.proofs.Forms.{bytes_form}
-use Rattle.report_read.specs.declared.check.Checked.{Checked}
 use Rattle.report_read.specs.declared.check.Checked.TheVariants.{Lanes, Refused}
 use Rattle.report_read.specs.declared.pick.Picked.{Picked}
 use Rattle.report_read.specs.declared.pick.Picked.TheVariants.{Lane as Places, NoSuchLane, Unread}

@@ -1,9 +1,9 @@
 -- Laws of hex turned back into bytes. Assumes nothing.
 use Prim.Native.Nat.{ℕ, zero, suc, ◌+◌, ◌-◌, ◌*◌, ◌/◌, ◌%◌, ◌≤◌, ◌<◌}
-use mathlib.Core.Path.{◌≡◌, refl, sym, ap, ◌∙◌, subst}
+use mathlib.Core.Path.{◌≡◌, refl, sym, ap, ◌∙◌}
 use mathlib.Core.Bool.{Bool, true, false, cond, ◌&&◌, ◌||◌}
 use mathlib.Core.Option.{Option, none, some}
-use mathlib.Core.List.{List, [], ◌∷◌, ◌++◌}
+use mathlib.Core.List.{List, [], ◌∷◌}
 use native.Mathlib.Numerals.{add-one}
 use native.Mathlib.Omega.{arith}
 use lib.Dec.{leb, eqb}
@@ -15,7 +15,6 @@ use Rattle.numbers.proofs.Tests.{both}
 use Rattle.spans.specs.Span.{overwrite}
 use Rattle.spans.proofs.Laws.{length-overwrite, overwrite_none, copy_turn}
 use Rattle.report_text.specs.Reader.{is_digit, is_hex, hex_value, byte_before, bytes_of}
-use Rattle.report_text.specs.declared.fields.Hexed.{Hexed}
 use Rattle.report_text.specs.declared.fields.Hexed.TheVariants.{Bytes as Some, NoBytes}
 use Rattle.report_text.specs.Values.{hexed_of, all_hex, hex_text}
 use Rattle.report_text.proofs.Words.{hexed_is}

@@ -1,5 +1,5 @@
 -- RULES AA15. A row a case: what the reader's calls say of document 02's two texts and of bad ones.
-use Rattle.std.specs.Prelude.{ℕ, ◌≡◌, refl, List, [], ◌∷◌, ◌++◌}
+use Rattle.std.specs.Prelude.{◌≡◌, refl, [], ◌∷◌, ◌++◌}
 use Rattle.limits.specs.Refusals.{answered, refused, some_lanes, a_lane, no_such_lane, some_bytes, no_hex}
 use Rattle.report_text.specs.Cases.{empty_text, a_text}
 use Rattle.report_text.specs.Reader.{text_read}

@@ -1,7 +1,7 @@
 -- RULES AA10, AA17. The reader by counts: what the code does. It keeps no lanes, only how many there are and their
 -- bytes; a name was seen before where its whole line is the term= line of an earlier lane. proofs/Counted.antt has that
 -- it answers what the reader says.
-use Rattle.std.specs.Prelude.{ℕ, zero, suc, ◌+◌, Bool, true, false, cond, ◌&&◌, not, List, [], ◌∷◌, leb, eqb, length}
+use Rattle.std.specs.Prelude.{ℕ, zero, suc, ◌+◌, Bool, true, false, cond, ◌&&◌, not, List, leb, eqb, length}
 use Rattle.std.proofs.Math.Option.{Option, none, some}
 use Rattle.limits.specs.Limits.{name_limit}
 use Rattle.fastcmp.specs.Equal.{equal_bytes}

@@ -1,6 +1,5 @@
 -- RULES AA11. A lane of a checked text by its index, from 0: the places of its name's hex and of its bytes' hex.
 use Rattle.std.specs.Prelude.{ℕ, ◌+◌, ◌-◌, cond, List, ltb, length, drop}
-use Rattle.spans.specs.Span.{overwrite}
 use Rattle.report_text.specs.Reader.{Told, lanes, bad, text_read}
 use Rattle.report_read.specs.declared.pick.Picked.{Picked}
 use Rattle.report_read.specs.declared.pick.Picked.TheVariants.{Lane, NoSuchLane, Unread}

@@ -1,5 +1,5 @@
 -- RULES X7. What each answer says: its word and the values it tells, or a refusal's number and what is told beside it.
-use Rattle.std.specs.Prelude.{List, [], ◌∷◌}
+use Rattle.std.specs.Prelude.{[], ◌∷◌}
 use Rattle.limits.specs.Refusals.{Said, answered, refused, some_lanes, a_lane, no_such_lane, some_bytes, no_hex}
 use Rattle.report_read.specs.declared.check.Checked.{Checked}
 use Rattle.report_read.specs.declared.check.Checked.TheVariants.{Lanes, Refused}

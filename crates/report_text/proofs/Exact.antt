@@ -1,6 +1,6 @@
 -- Only the text of its lanes is accepted: what the reader takes is what the writer writes of the lanes it told, and
 -- these are lanes that a report can hold. Assumes nothing.
-use Prim.Native.Nat.{ℕ, zero, suc, ◌+◌, ◌^◌, ◌≤◌, ◌<◌}
+use Prim.Native.Nat.{ℕ, suc, ◌^◌, ◌<◌}
 use mathlib.Core.Path.{◌≡◌, refl, sym, ap, ◌∙◌, subst}
 use mathlib.Core.Bool.{Bool, true, false, cond, ◌&&◌, not}
 use mathlib.Core.Option.{Option, none, some}
@@ -19,9 +19,9 @@ use Rattle.report_text.specs.Text.{len_word, bytes_word, end_line, decimal, hex,
 use Rattle.report_text.specs.Text.{report_text}
 use Rattle.report_text.specs.Reader.{Lines, ended, unended, in_front, lines_of, and_then, number_in, bytes_in, named}
 use Rattle.report_text.specs.Reader.{Expects, a_store, a_terms, a_total, a_lane, a_length, some_bytes, nothing}
-use Rattle.report_text.specs.Reader.{provided, name_taken, end_taken, line_read, Told, lanes, bad, no_more, or_bad}
+use Rattle.report_text.specs.Reader.{provided, name_taken, end_taken, line_read, lanes, bad, or_bad}
 use Rattle.report_text.specs.Reader.{bytes_taken, rest_read, lines_read, text_read}
-use Rattle.report_text.specs.Reportable.{Fits, EachFits, Unseen, Reportable}
+use Rattle.report_text.specs.Reportable.{EachFits, Unseen, Reportable}
 use Rattle.report_text.proofs.Forms.{bytes_form, number_form}
 use Rattle.report_text.proofs.Round.{line_text, lane_text_lem}
 

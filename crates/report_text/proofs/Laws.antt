@@ -1,18 +1,18 @@
 -- Laws of the reader's definitions, for the loops of the code. Assumes nothing.
-use Prim.Native.Nat.{ℕ, zero, suc, ◌+◌, ◌-◌, ◌*◌, ◌%◌, ◌^◌, ◌≤◌, ◌<◌}
-use mathlib.Core.Path.{◌≡◌, refl, sym, ap, ◌∙◌}
-use mathlib.Core.Bool.{Bool, true, false, cond, ◌&&◌, not}
-use mathlib.Core.Option.{Option, none, some}
-use mathlib.Core.List.{List, [], ◌∷◌, ◌++◌}
+use Prim.Native.Nat.{ℕ, suc, ◌+◌, ◌-◌, ◌*◌, ◌%◌, ◌^◌, ◌≤◌, ◌<◌}
+use mathlib.Core.Path.{◌≡◌, refl, ◌∙◌}
+use mathlib.Core.Bool.{Bool, true, false, cond, ◌&&◌}
+use mathlib.Core.Option.{none, some}
+use mathlib.Core.List.{List, [], ◌∷◌}
 use native.Mathlib.Nat.{pow-suc, pow-le-pow_right}
 use native.Mathlib.Omega.{arith}
-use lib.Dec.{leb, ltb, eqb}
-use lib.ListN.{length, take, drop, get_or, drop_of_length-le}
+use lib.Dec.{leb}
+use lib.ListN.{length, drop, get_or, drop_of_length-le}
 use lib.Seq.{drop-cons}
 use borrow.Author.Tests.{le-leb, lt-leb, leb-true, eq-eqb, ne_eqb}
 use Rattle.limits.specs.Limits.{digit_limit}
 use Rattle.numbers.proofs.Tests.{both}
-use Rattle.report_text.specs.Reader.{is_digit, number_from, no_leading_zero, number_of, is_hex}
+use Rattle.report_text.specs.Reader.{is_digit, number_from, number_of, is_hex}
 use Rattle.report_text.specs.Values.{all_hex, hex_text}
 
 -- ---- decimals

@@ -1,23 +1,21 @@
 -- The round trip: the reader gives back the lanes whose text was written. Assumes nothing.
-use Prim.Native.Nat.{ℕ, zero, suc, ◌+◌, ◌^◌, ◌≤◌, ◌<◌}
+use Prim.Native.Nat.{ℕ, suc, ◌+◌, ◌^◌, ◌≤◌, ◌<◌}
 use mathlib.Core.Path.{◌≡◌, refl, sym, ap, ◌∙◌}
-use mathlib.Core.Bool.{Bool, true, false, cond}
-use mathlib.Core.Option.{Option, none, some}
+use mathlib.Core.Bool.{false}
+use mathlib.Core.Option.{Option, some}
 use mathlib.Core.List.{List, [], ◌∷◌, ◌++◌, append_assoc, append-nil}
 use native.Mathlib.Omega.{arith}
-use lib.Dec.{leb, ltb, eqb, lit<}
-use lib.ListN.{length, length-append}
+use lib.Dec.{lit<}
+use lib.ListN.{length}
 use borrow.Author.Tests.{le-leb, eq-eqb, ne_eqb}
 use Rattle.limits.specs.Limits.{name_limit, digit_limit}
 use Rattle.numbers.specs.LittleEndian.{Bytes}
-use Rattle.fastcmp.specs.Equal.{equal_bytes}
-use Rattle.fastcmp.proofs.Laws.{equal_refl, equal_not}
 use Rattle.report_text.specs.Text.{Lane, lane, total_of, newline, store_line, terms_word, total_word, term_word}
-use Rattle.report_text.specs.Text.{len_word, bytes_word, end_line, digits, decimal, hex, line, lane_text}
+use Rattle.report_text.specs.Text.{len_word, bytes_word, end_line, decimal, hex, line, lane_text}
 use Rattle.report_text.specs.Text.{lanes_text, head_text, report_text}
-use Rattle.report_text.specs.Reader.{ended, unended, in_front, lines_of, value_after, number_of, bytes_of, number_in}
+use Rattle.report_text.specs.Reader.{ended, lines_of, value_after, number_in}
 use Rattle.report_text.specs.Reader.{bytes_in, named, Expects, a_store, a_terms, a_total, a_lane, a_length, some_bytes}
-use Rattle.report_text.specs.Reader.{nothing, name_taken, end_taken, line_read, Told, lanes, or_bad, lines_read}
+use Rattle.report_text.specs.Reader.{nothing, name_taken, end_taken, line_read, lanes, or_bad, lines_read}
 use Rattle.report_text.specs.Reader.{text_read}
 use Rattle.report_text.specs.Reportable.{Fits, EachFits, Unseen, Reportable}
 use Rattle.report_text.proofs.Values.{Plain, plain-append, digits-plain, hex-plain, decimal_back, hex_back}

@@ -1,19 +1,19 @@
 -- Decimals and hex: what is written reads back, and has no newline. Assumes nothing.
 use Prim.Native.Nat.{ℕ, zero, suc, ◌+◌, ◌-◌, ◌*◌, ◌/◌, ◌%◌, ◌^◌, ◌≤◌, ◌<◌}
-use mathlib.Core.Path.{◌≡◌, refl, sym, ap, ◌∙◌, subst}
+use mathlib.Core.Path.{◌≡◌, refl, ap, ◌∙◌}
 use mathlib.Core.Logic.{◌⊎◌, inl, inr, ⊎_elim}
-use mathlib.Core.Bool.{Bool, true, false, cond, ◌&&◌, not}
-use mathlib.Core.Option.{Option, none, some}
-use mathlib.Core.List.{List, [], ◌∷◌, ◌++◌, append_assoc}
+use mathlib.Core.Bool.{Bool, true, false, cond}
+use mathlib.Core.Option.{none, some}
+use mathlib.Core.List.{List, [], ◌∷◌, ◌++◌}
 use native.Mathlib.Nat.{pow-suc}
 use native.Mathlib.Omega.{arith}
-use lib.Dec.{leb, ltb, eqb}
+use lib.Dec.{ltb}
 use lib.ListN.{length, length-append}
 use borrow.Author.Tests.{ltb-true, ltb-false, lt-ltb, le-ltb, le-leb, lt-leb, ne_eqb}
 use Rattle.limits.specs.Limits.{digit_limit}
 use Rattle.numbers.specs.LittleEndian.{Bytes}
 use Rattle.report_text.specs.Text.{digits, decimal, hex_digit, hex, newline}
-use Rattle.report_text.specs.Reader.{is_digit, number_from, no_leading_zero, number_of, is_hex, hex_value, byte_before}
+use Rattle.report_text.specs.Reader.{is_digit, number_from, no_leading_zero, number_of, is_hex, hex_value}
 use Rattle.report_text.specs.Reader.{bytes_of}
 
 -- a number is below another or not

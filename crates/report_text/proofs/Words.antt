@@ -1,20 +1,18 @@
 -- Laws of what stands in a line: a word in front, and the test of hex. Assumes nothing.
-use Prim.Native.Nat.{ℕ, zero, suc, ◌+◌, ◌-◌, ◌*◌, ◌/◌, ◌%◌, ◌≤◌, ◌<◌}
-use mathlib.Core.Path.{◌≡◌, refl, sym, ap, ◌∙◌}
-use mathlib.Core.Bool.{Bool, true, false, cond, ◌&&◌, not, false≢true}
+use Prim.Native.Nat.{ℕ, suc, ◌+◌, ◌-◌, ◌*◌, ◌/◌, ◌%◌, ◌≤◌, ◌<◌}
+use mathlib.Core.Path.{◌≡◌, refl, sym, ap}
+use mathlib.Core.Bool.{Bool, true, false, cond, ◌&&◌, false≢true}
 use mathlib.Core.Option.{Option, none, some}
-use mathlib.Core.List.{List, [], ◌∷◌, ◌++◌}
+use mathlib.Core.List.{List, [], ◌∷◌}
 use native.Mathlib.Nat.{sub-zero}
-use native.Mathlib.Numerals.{add-one}
 use native.Mathlib.Omega.{arith}
-use lib.Dec.{leb, ltb, eqb}
-use lib.ListN.{length, take, drop, get_or, drop_of_length-le, length-drop}
-use lib.Seq.{drop-cons, take_all, drop-drop}
+use lib.Dec.{leb, eqb}
+use lib.ListN.{length, take, drop, length-drop}
+use lib.Seq.{take_all}
 use borrow.Author.Tests.{le-leb, lt-leb, leb-true, eq-eqb, ne_eqb, eqb-true, eqb-false}
 use Rattle.fastcmp.specs.Equal.{equal_bytes}
-use Rattle.report_text.specs.declared.fields.Hexed.{Hexed}
 use Rattle.report_text.specs.declared.fields.Hexed.TheVariants.{Bytes, NoBytes}
-use Rattle.report_text.specs.Reader.{Lines, ended, unended, in_front, lines_of, value_after, number_of, is_hex}
+use Rattle.report_text.specs.Reader.{value_after, number_of, is_hex}
 use Rattle.report_text.specs.Reader.{hex_value, byte_before, bytes_of, number_in, bytes_in}
 use Rattle.report_text.specs.Values.{begins_with, hexed_of, all_hex, hex_text}
 

@@ -1,5 +1,5 @@
 -- RULES AA15. Document 02's two worked texts, and what the reader makes of them and of some bad ones.
-use Rattle.std.specs.Prelude.{ℕ, ◌≡◌, refl, List, [], ◌∷◌, ◌++◌, length}
+use Rattle.std.specs.Prelude.{ℕ, ◌≡◌, refl, List, [], ◌∷◌, ◌++◌}
 use Rattle.report_text.specs.Text.{lane, report_text, line, store_line, terms_word, total_word, term_word, len_word}
 use Rattle.report_text.specs.Text.{bytes_word, end_line}
 use Rattle.report_text.specs.Reader.{text_read, lanes, bad}

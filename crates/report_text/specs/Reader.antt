@@ -1,6 +1,6 @@
 -- RULES AA6, AA7, AA8. Document 02, One: the reader. It goes line by line; each line is judged by what is expected
 -- there, so the first bad line is the first that is refused.
-use Rattle.std.specs.Prelude.{ℕ, zero, suc, ◌+◌, ◌-◌, ◌*◌, ◌≡◌, Bool, true, false, cond, ◌&&◌, ◌||◌, not, List, [], ◌∷◌, ◌++◌, leb, ltb, eqb, length}
+use Rattle.std.specs.Prelude.{ℕ, suc, ◌+◌, ◌-◌, ◌*◌, Bool, true, false, cond, ◌&&◌, ◌||◌, not, List, [], ◌∷◌, ◌++◌, leb, eqb, length}
 use Rattle.std.proofs.Math.Option.{Option, none, some}
 use Rattle.limits.specs.Limits.{name_limit, digit_limit}
 use Rattle.fastcmp.specs.Equal.{equal_bytes}

@@ -1,6 +1,6 @@
 -- RULES AA13. The lanes that a report can hold: bytes, names short enough and distinct, and numbers in reach of the
 -- reader's decimals.
-use Rattle.std.specs.Prelude.{ℕ, ◌^◌, ◌≤◌, ◌<◌, ◌≡◌, false, List, [], ◌∷◌, ◌++◌, length}
+use Rattle.std.specs.Prelude.{◌^◌, ◌≤◌, ◌<◌, ◌≡◌, false, List, [], ◌∷◌, ◌++◌, length}
 use Rattle.limits.specs.Limits.{name_limit, digit_limit}
 use Rattle.numbers.specs.LittleEndian.{Bytes}
 use Rattle.report_text.specs.Text.{Lane, total_of}

@@ -1,5 +1,5 @@
 -- RULES AA8. The values of a line as the code answers them.
-use Rattle.std.specs.Prelude.{ℕ, ◌%◌, Bool, true, false, cond, ◌&&◌, List, [], ◌∷◌, leb, eqb, length, take}
+use Rattle.std.specs.Prelude.{ℕ, ◌%◌, Bool, true, false, cond, List, [], ◌∷◌, leb, eqb, length, take}
 use Rattle.std.proofs.Math.Option.{Option, none, some}
 use Rattle.fastcmp.specs.Equal.{equal_bytes}
 use Rattle.report_text.specs.declared.fields.Decimal.{Decimal}

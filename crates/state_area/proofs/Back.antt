@@ -1,5 +1,5 @@
 -- The state that a sensible area of bytes holds has the bytes that stand there. Assumes nothing.
-use Prim.Native.Nat.{ℕ, ◌+◌, ◌*◌, ◌≤◌, ◌<◌}
+use Prim.Native.Nat.{ℕ, ◌+◌, ◌≤◌}
 use mathlib.Core.Path.{◌≡◌, refl, sym, ap, ◌∙◌}
 use mathlib.Core.Bool.{Bool, true, false, cond, ◌&&◌}
 use mathlib.Core.List.{List, ◌++◌}
@@ -7,7 +7,7 @@ use native.Mathlib.Omega.{arith}
 use lib.Dec.{leb, eqb}
 use lib.ListN.{length}
 use borrow.Author.Tests.{leb-true, eqb-true, eqb-false}
-use Rattle.numbers.specs.LittleEndian.{le_number, le_bytes, Bytes}
+use Rattle.numbers.specs.LittleEndian.{le_bytes, Bytes}
 use Rattle.numbers.proofs.Tests.{both}
 use Rattle.numbers.proofs.Laws.{le_back}
 use Rattle.spans.specs.Span.{read_span, overwrite}

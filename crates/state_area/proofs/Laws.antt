@@ -15,7 +15,7 @@ use Rattle.numbers.proofs.Laws.{length_le, le_bytes_lem, le_number_lem, le_round
 use Rattle.spans.specs.Span.{read_span, overwrite}
 use Rattle.spans.proofs.Laws.{overwrite-append, read_written, span_within, span_bytes, length_span}
 use Rattle.store_state.specs.declared.State.{State}
-use Rattle.state_area.specs.Area.{area_size, area_mark, number_at, sensible_area, state_at, four_bytes, area_of, Fits}
+use Rattle.state_area.specs.Area.{area_size, number_at, sensible_area, four_bytes, area_of}
 
 -- ---- written
 

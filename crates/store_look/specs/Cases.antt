@@ -1,7 +1,7 @@
 -- A row a case: what each of these calls says in document 01's terms, on a store over twice 64 bytes in pages of 65,536
 -- that holds lane A alone, three bytes in it, where all memory held 7s. Each row is worked out from the definitions
 -- that the contracts cite; that an append leaves just this store is a row of the crate store.
-use Rattle.std.specs.Prelude.{ℕ, ◌≡◌, refl, false, List, [], ◌∷◌, ◌++◌, replicate}
+use Rattle.std.specs.Prelude.{ℕ, ◌≡◌, refl, false, List, [], ◌∷◌, replicate}
 use Rattle.limits.specs.Refusals.{answered, refused, a_place, absent, a_length, a_reading, a_block}
 use Rattle.limits.specs.Refusals.{no_such_block, a_bucket, no_bucket, a_count}
 use Rattle.spans.specs.Span.{overwrite}

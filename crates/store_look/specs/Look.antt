@@ -13,7 +13,6 @@ use Rattle.shared_arena_hashmap.specs.declared.Next.{Next}
 use Rattle.shared_arena_hashmap.specs.declared.Next.TheVariants.{Occupied, NoMore as NoBucket}
 use Rattle.records.specs.Record.{good_record, header_of, header_sound}
 use Rattle.shared_arena_hashmap.specs.Probe.{lookup, occupied_from}
-use Rattle.expull_header.specs.declared.Header.{Header}
 use Rattle.expull_walk.specs.declared.Block.{Block as BlockFound}
 use Rattle.expull_walk.specs.declared.Block.TheVariants.{BlockAt, NoBlock, BadBlock}
 use Rattle.expull_header.specs.Header.{lane_length, block_count}

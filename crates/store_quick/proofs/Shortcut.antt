@@ -1,5 +1,5 @@
 -- The short way of an append leaves what the append leaves. Assumes nothing.
-use Prim.Native.Nat.{ℕ, ◌+◌, ◌≤◌, ◌<◌}
+use Prim.Native.Nat.{ℕ, ◌+◌, ◌≤◌}
 use mathlib.Core.Path.{◌≡◌, refl, sym, ap, ◌∙◌}
 use mathlib.Core.Bool.{true}
 use mathlib.Core.Option.{some}
@@ -13,8 +13,8 @@ use Rattle.memory_arena.specs.Calls.{sensible}
 use Rattle.memory_arena.proofs.Laws.{sensible_facts}
 use Rattle.records.specs.Record.{value_place, header_of, header_sound}
 use Rattle.expull_header.specs.declared.Header.{Header}
-use Rattle.expull_header.specs.Header.{header_bytes, end_bytes_at, sound_header}
-use Rattle.expull_append.specs.Append.{Writing, writing, filled, appended, good_tail}
+use Rattle.expull_header.specs.Header.{header_bytes, end_bytes_at}
+use Rattle.expull_append.specs.Append.{Writing, writing, filled, appended}
 use Rattle.expull_header.proofs.Laws.{sound_facts}
 use Rattle.expull_append.proofs.Laws.{appended-chunk, tail_in}
 use Rattle.store_state.specs.declared.State.{State}

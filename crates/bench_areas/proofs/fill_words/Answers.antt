@@ -1,9 +1,6 @@
 -- The invariant: the area keeps its length. The measure is what is left of it. Assumes nothing.
-use lib.ListN.{length, length-set}
+use lib.ListN.{length-set}
 use native.Mathlib.Omega.{arith}
-use mathlib.Core.Path.{◌≡◌}
-use Prim.Native.Nat.{◌≤◌, ◌-◌}
-use borrow.Author.Rules.{rules}
 use Rattle.bench_areas.proofs.fill_words.Goals as goal
 
 pub loop-i-smaller : goal.loop-i-smaller

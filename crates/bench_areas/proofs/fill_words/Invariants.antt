@@ -1,9 +1,7 @@
 -- The invariant: the area keeps its length. The measure is what is left of it. Assumes nothing.
-use lib.ListN.{length, length-set}
-use native.Mathlib.Omega.{arith}
+use lib.ListN.{length}
 use mathlib.Core.Path.{◌≡◌}
 use Prim.Native.Nat.{◌≤◌, ◌-◌}
-use borrow.Author.Rules.{rules}
 use Rattle.bench_areas.proofs.fill_words.Given as goal
 
 abbrev pub invariant-loop-i : goal.invariant-loop-i

@@ -2,7 +2,6 @@
 use lib.ListN.{length}
 use mathlib.Core.Path.{◌≡◌}
 use Prim.Native.Nat.{◌≤◌, ◌-◌}
-use borrow.Author.Rules.{rules}
 use Rattle.bench_areas.proofs.lay_out.Given as goal
 
 abbrev pub invariant-loop-i : goal.invariant-loop-i

@@ -1,9 +1,6 @@
 -- The invariant: as many places as before. The measure is those that are left. Assumes nothing.
-use Prim.Native.Nat.{◌≤◌, ◌-◌}
-use mathlib.Core.Path.{◌≡◌}
 use native.Mathlib.Omega.{arith}
-use lib.ListN.{length, length-set}
-use borrow.Author.Rules.{rules}
+use lib.ListN.{length-set}
 use Rattle.bench_readings.proofs.fill.Goals as goal
 
 pub loop-i-smaller : goal.loop-i-smaller

@@ -1,9 +1,7 @@
 -- The invariant: as many places as before. The measure is those that are left. Assumes nothing.
 use Prim.Native.Nat.{◌≤◌, ◌-◌}
 use mathlib.Core.Path.{◌≡◌}
-use native.Mathlib.Omega.{arith}
-use lib.ListN.{length, length-set}
-use borrow.Author.Rules.{rules}
+use lib.ListN.{length}
 use Rattle.bench_readings.proofs.fill.Given as goal
 
 abbrev pub invariant-loop-i : goal.invariant-loop-i

@@ -1,7 +1,6 @@
 -- The measure is the places that are left. Assumes nothing.
 use Prim.Native.Nat.{◌≤◌, ◌-◌}
 use lib.ListN.{length}
-use borrow.Author.Rules.{rules}
 use Rattle.bench_readings.proofs.is_unwritten.Given as goal
 
 abbrev pub invariant-loop-i : goal.invariant-loop-i

@@ -2,7 +2,6 @@
 use lib.ListN.{length}
 use mathlib.Core.Path.{◌≡◌}
 use Prim.Native.Nat.{◌≤◌, ◌-◌}
-use borrow.Author.Rules.{rules}
 use Rattle.bench_state.proofs.hash_at.Given as goal
 
 abbrev pub invariant-loop-k : goal.invariant-loop-k

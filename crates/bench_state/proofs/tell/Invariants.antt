@@ -1,6 +1,5 @@
 -- The measure is the numbers that are left. Assumes nothing.
 use Prim.Native.Nat.{◌≤◌, ◌-◌}
-use borrow.Author.Rules.{rules}
 use Rattle.bench_state.proofs.tell.Given as goal
 
 abbrev pub invariant-loop-k : goal.invariant-loop-k

@@ -1,12 +1,9 @@
 -- Refused, or cleared, gone over and cleared. Assumes nothing.
-use Prim.Native.Nat.{◌-◌}
 use mathlib.Core.Bool.{true}
 use mathlib.Core.Path.{◌≡◌, sym, ◌∙◌}
 use native.Mathlib.Omega.{arith}
-use borrow.Author.Tests.{not-true, not-false}
-use Rattle.store_look.specs.Look.{Lent, lent, checked}
+use Rattle.store_look.specs.Look.{lent, checked}
 use Rattle.brownout.proofs.Turns.{keys_short, lists_short, check_2, check_8, check_done, told}
-use borrow.Author.Rules.{rules}
 use Rattle.brownout.proofs.check.Goals as goal
 use Rattle.brownout.proofs.check.Goals.{Else-not-is_whole_state}
 

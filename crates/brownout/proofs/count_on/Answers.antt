@@ -1,9 +1,7 @@
 -- A bucket of the standing table is in the lent one. Assumes nothing.
-use Prim.Native.Nat.{◌-◌}
 use native.Mathlib.Omega.{arith}
 use Rattle.store_look.specs.Look.{lent}
 use Rattle.brownout.proofs.Turns.{In, bucket-in, buckets_in, count_vacant, count_full}
-use borrow.Author.Rules.{rules}
 use Rattle.brownout.proofs.count_on.Goals as goal
 use Rattle.brownout.proofs.count_on.Goals.{After-first_bucket-first}
 

@@ -1,12 +1,9 @@
 -- The walk's last bucket by the number of buckets looked at. Assumes nothing.
-use Prim.Native.Nat.{◌-◌}
 use mathlib.Core.Path.{sym, ap, ◌∙◌}
 use native.Mathlib.Omega.{arith}
-use borrow.Author.Tests.{not-true, not-false}
 use Rattle.store_look.specs.Look.{lent}
 use Rattle.brownout.proofs.Turns.{some_bucket, looked-few, bucket_none, bucket_some}
 use Rattle.shared_arena_hashmap.specs.declared.Walk.{Walk}
-use borrow.Author.Rules.{rules}
 use Rattle.brownout.proofs.find_bucket.Goals as goal
 
 pub returns-then-not-is_found : goal.returns-then-not-is_found

@@ -1,11 +1,11 @@
 -- Going over all buckets is going over those left. Assumes nothing.
-use Prim.Native.Nat.{◌-◌, ◌<◌}
+use Prim.Native.Nat.{◌<◌}
 use mathlib.Core.Bool.{true, false}
-use mathlib.Core.Path.{◌≡◌, refl, ◌∙◌}
+use mathlib.Core.Path.{refl, ◌∙◌}
 use native.Mathlib.Omega.{arith}
 use borrow.Author.Tests.{eq-eqb, ne_eqb}
 use Rattle.store_look.specs.Look.{lent}
-use Rattle.brownout.proofs.Turns.{Going, going-begun, going_stop, going_next, going_end}
+use Rattle.brownout.proofs.Turns.{going-begun, going_stop, going_next, going_end}
 use Rattle.brownout.proofs.go_over.Goals as goal
 use Rattle.brownout.proofs.go_over.Goals.{After-look_over-fault}
 

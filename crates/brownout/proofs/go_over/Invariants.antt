@@ -1,11 +1,8 @@
 -- Going over all buckets is going over those left. Assumes nothing.
-use Prim.Native.Nat.{◌-◌, ◌<◌}
-use mathlib.Core.Bool.{true, false}
-use mathlib.Core.Path.{◌≡◌, refl, ◌∙◌}
-use native.Mathlib.Omega.{arith}
-use borrow.Author.Tests.{eq-eqb, ne_eqb}
+use Prim.Native.Nat.{◌-◌}
+use mathlib.Core.Path.{◌≡◌}
 use Rattle.store_look.specs.Look.{lent}
-use Rattle.brownout.proofs.Turns.{Going, going-begun, going_stop, going_next, going_end}
+use Rattle.brownout.proofs.Turns.{Going}
 use Rattle.brownout.proofs.go_over.Given as goal
 
 abbrev pub invariant-loop-i : goal.invariant-loop-i

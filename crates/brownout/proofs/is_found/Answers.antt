@@ -1,6 +1,5 @@
 -- Case by case. Assumes nothing.
 use mathlib.Core.Path.{sym, ap}
-use borrow.Author.Rules.{rules}
 use Rattle.brownout_faults.specs.Check.{found_met}
 use Rattle.brownout.proofs.is_found.Goals as goal
 

@@ -5,7 +5,6 @@ use native.Mathlib.Omega.{arith}
 use Rattle.store_look.specs.Look.{lent}
 use Rattle.brownout.proofs.Turns.{tail_none, tail_some, tail_lost}
 use Rattle.expull_header.proofs.Laws.{sound_facts}
-use borrow.Author.Rules.{rules}
 use borrow.Enum.Refused.{opened}
 use Rattle.brownout.proofs.is_tail_good.Goals as goal
 

@@ -1,16 +1,13 @@
 -- The tests in the order of the paper; one lookup decides two of them. Assumes nothing.
-use Prim.Native.Nat.{◌-◌}
 use mathlib.Core.Bool.{true}
 use mathlib.Core.Path.{◌≡◌, sym, ap, ◌∙◌}
 use native.Mathlib.Omega.{arith}
-use borrow.Author.Tests.{not-true, not-false}
 use Rattle.store_look.specs.Look.{lent}
 use Rattle.brownout.proofs.Turns.{keys_sense, lists_sense, Held, record-held, part_key, judged_1, judged_2}
 use Rattle.brownout.proofs.Turns.{judged_3, judged_4, judged_list}
 use Rattle.records.proofs.Laws.{Headed, head-found, head_lost}
 use Rattle.records.specs.Record.{key_at, good_record}
 use Rattle.brownout.specs.Code.{bucket_of}
-use borrow.Author.Rules.{rules}
 use Rattle.brownout.proofs.judge.Goals as goal
 use Rattle.brownout.proofs.judge.Goals.{After-find_bucket-b, Else-not-is_good_record, In-Sound}
 

@@ -1,9 +1,7 @@
 -- Blocks, then the tail. Assumes nothing.
-use Prim.Native.Nat.{◌-◌}
 use mathlib.Core.Bool.{true, false}
 use mathlib.Core.Path.{sym, ◌∙◌}
 use native.Mathlib.Omega.{arith}
-use borrow.Author.Tests.{not-true, not-false}
 use Rattle.store_look.specs.Look.{lent}
 use Rattle.brownout.proofs.Turns.{list_5, list_rest}
 use Rattle.expull_header.proofs.Laws.{sound_facts}

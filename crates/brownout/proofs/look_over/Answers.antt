@@ -1,12 +1,12 @@
 -- Vacant, judged, marked. Assumes nothing.
-use Prim.Native.Nat.{ℕ, ◌+◌, ◌-◌, ◌*◌}
+use Prim.Native.Nat.{◌+◌, ◌*◌}
 use mathlib.Core.Bool.{true, false}
 use mathlib.Core.Path.{◌≡◌, sym, ap, ◌∙◌}
 use native.Mathlib.Omega.{arith}
 use lib.ListN.{get_or}
 use borrow.Author.Tests.{eq-eqb, ne_eqb}
 use Rattle.records.specs.Record.{header_of, header_sound, good_record}
-use Rattle.store_look.specs.Look.{Lent, lent}
+use Rattle.store_look.specs.Look.{lent}
 use Rattle.brownout.proofs.Turns.{In, bucket-in, buckets_in, vacant_code, record_code, keys_short, lists_short}
 use Rattle.brownout.proofs.Turns.{lists_sense, Held, record-held, over_vacant, over_judged, over_marked}
 use Rattle.records.proofs.Laws.{Headed, head-found, head_lost}
@@ -17,7 +17,6 @@ use Rattle.expull_walk.specs.Blocks.{good_blocks}
 use Rattle.brownout_faults.specs.Check.{vacant, record_in}
 use Rattle.brownout.specs.Code.{step, judged}
 use Rattle.brownout.proofs.Once.{Judged, judged_facts}
-use borrow.Author.Rules.{rules}
 use Rattle.brownout.proofs.look_over.Goals as goal
 use Rattle.brownout.proofs.look_over.Goals.{After-first_bucket-first, Else-at, Else-fault-ne0, In-Sound}
 

@@ -1,13 +1,12 @@
 -- The whole marking is that of the blocks left. Assumes nothing.
-use Prim.Native.Nat.{◌+◌, ◌-◌, ◌≤◌}
+use Prim.Native.Nat.{◌+◌, ◌≤◌}
 use mathlib.Core.Bool.{Bool, true, false}
 use mathlib.Core.Path.{◌≡◌, subst, ◌∙◌}
 use native.Mathlib.Omega.{arith}
 use lib.ListN.{length}
-use Rattle.brownout.proofs.Turns.{Marking, marking-begun, marking_stop, marking-next, marking-end, marking-in}
+use Rattle.brownout.proofs.Turns.{marking-begun, marking_stop, marking-next, marking-end, marking-in}
 use Rattle.limits.specs.Limits.{link_size}
 use Rattle.marks.specs.Bits.{out as marks_out, mark_span}
-use borrow.Author.Rules.{rules}
 use Rattle.brownout.proofs.mark_blocks.Goals as goal
 use Rattle.brownout.proofs.mark_blocks.Goals.{After-get_block_size-size, After-mark_span-met}
 

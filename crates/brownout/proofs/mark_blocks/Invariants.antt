@@ -1,13 +1,6 @@
 -- The whole marking is that of the blocks left. Assumes nothing.
-use Prim.Native.Nat.{◌+◌, ◌-◌, ◌≤◌}
-use mathlib.Core.Bool.{Bool, true, false}
-use mathlib.Core.Path.{◌≡◌, subst, ◌∙◌}
-use native.Mathlib.Omega.{arith}
-use lib.ListN.{length}
-use Rattle.brownout.proofs.Turns.{Marking, marking-begun, marking_stop, marking-next, marking-end, marking-in}
-use Rattle.limits.specs.Limits.{link_size}
-use Rattle.marks.specs.Bits.{out as marks_out, mark_span}
-use borrow.Author.Rules.{rules}
+use Prim.Native.Nat.{◌-◌}
+use Rattle.brownout.proofs.Turns.{Marking}
 use Rattle.brownout.proofs.mark_blocks.Given as goal
 
 abbrev pub invariant-loop-k : goal.invariant-loop-k

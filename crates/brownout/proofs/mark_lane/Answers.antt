@@ -1,5 +1,5 @@
 -- The record, then the blocks. Assumes nothing.
-use Prim.Native.Nat.{◌+◌, ◌-◌}
+use Prim.Native.Nat.{◌+◌}
 use mathlib.Core.Bool.{Bool, true, false}
 use mathlib.Core.Path.{◌≡◌, subst, ◌∙◌}
 use native.Mathlib.Omega.{arith}
@@ -11,7 +11,6 @@ use Rattle.marks.specs.Bits.{out as marks_out, mark_span}
 use Rattle.brownout.specs.Code.{mark_blocks}
 use Rattle.limits.specs.Limits.{record_extra}
 use Rattle.expull_header.specs.Header.{block_count}
-use borrow.Author.Rules.{rules}
 use Rattle.brownout.proofs.mark_lane.Goals as goal
 use Rattle.brownout.proofs.mark_lane.Goals.{After-mark_blocks-again, After-mark_span-met}
 

@@ -1,7 +1,6 @@
 -- The state that the area holds, and the new one saved. Assumes nothing.
 use mathlib.Core.Path.{◌≡◌, sym, ◌∙◌}
 use mathlib.Core.Bool.{true}
-use borrow.Author.Tests.{not-true, not-false}
 use Rattle.store_state.specs.declared.State.{State}
 use Rattle.store_look.specs.Look.{Lent, lent}
 use mir.Facts.{to_z-of_z}
@@ -11,7 +10,6 @@ use Rattle.state_area.specs.Area.{sensible_area}
 use Rattle.state_area.proofs.Laws.{sensible-long}
 use Rattle.c_told.specs.Told.{saved_appended}
 use Rattle.c_told.proofs.Laws.{answered_with}
-use borrow.Author.Rules.{rules}
 use Rattle.c_above.proofs.drift.Goals as goal
 use Rattle.c_above.proofs.drift.Goals.{Else-not-is_sensible_area}
 

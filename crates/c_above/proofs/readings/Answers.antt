@@ -1,13 +1,11 @@
 -- The answer, told, and what is written. Assumes nothing.
 use mathlib.Core.Path.{sym, ◌∙◌}
-use borrow.Author.Tests.{not-true, not-false}
 use Rattle.store_state.specs.declared.State.{State}
 use Rattle.store_look.specs.Look.{lent}
 use Rattle.readings.specs.Readings.{Out, out, readings_of}
 use Rattle.state_area.proofs.Laws.{sensible-long}
 use Rattle.c_told.proofs.Laws.{answered_with, senseless_with}
 use Rattle.c_above.specs.Above.{recalled_told}
-use borrow.Author.Rules.{rules}
 use Rattle.c_above.proofs.readings.Goals as goal
 
 pub returns-then-not-is_sensible_area : goal.returns-then-not-is_sensible_area

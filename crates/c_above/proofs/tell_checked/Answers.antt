@@ -1,10 +1,7 @@
 -- Each answer's code and words. Assumes nothing.
-use Prim.Native.Nat.{ℕ}
 use mathlib.Core.Path.{sym, ap, ◌∙◌}
-use mathlib.Core.List.{List}
 use Rattle.brownout_faults.specs.declared.Checked.{Checked}
 use Rattle.c_above.specs.Above.{checked_told}
-use borrow.Author.Rules.{rules}
 use Rattle.c_above.proofs.tell_checked.Goals as goal
 
 pub returns-in-Sound : goal.returns-in-Sound

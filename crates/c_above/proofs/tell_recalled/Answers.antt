@@ -1,10 +1,7 @@
 -- Each answer's code and words. Assumes nothing.
-use Prim.Native.Nat.{ℕ}
 use mathlib.Core.Path.{sym, ap, ◌∙◌}
-use mathlib.Core.List.{List}
 use Rattle.readings.specs.declared.Recalled.{Recalled}
 use Rattle.c_above.specs.Above.{recalled_told}
-use borrow.Author.Rules.{rules}
 use Rattle.c_above.proofs.tell_recalled.Goals as goal
 
 pub returns-in-Readings : goal.returns-in-Readings

@@ -1,10 +1,7 @@
 -- Each answer's code and words. Assumes nothing.
-use Prim.Native.Nat.{ℕ}
 use mathlib.Core.Path.{sym, ap, ◌∙◌}
-use mathlib.Core.List.{List}
 use Rattle.report.specs.declared.Reported.{Reported}
 use Rattle.c_above.specs.Above.{reported_told}
-use borrow.Author.Rules.{rules}
 use Rattle.c_above.proofs.tell_reported.Goals as goal
 
 pub returns-in-Written : goal.returns-in-Written

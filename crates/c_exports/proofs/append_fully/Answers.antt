@@ -10,7 +10,6 @@ use Rattle.store_append.proofs.Cases.{append-met}
 use Rattle.state_area.specs.Area.{state_at}
 use Rattle.state_area.proofs.Laws.{sensible-long}
 use Rattle.c_told.specs.Told.{appended}
-use borrow.Author.Rules.{rules}
 use Rattle.c_exports.proofs.append_fully.Goals as goal
 
 pub load-st-requires : goal.load-st-requires

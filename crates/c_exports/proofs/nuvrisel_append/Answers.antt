@@ -4,20 +4,17 @@ use Prim.Native.Nat.{ℕ}
 use mathlib.Core.Path.{◌≡◌, sym, ap, subst, ◌∙◌}
 use mathlib.Core.Bool.{true}
 use mathlib.Core.List.{List}
-use borrow.Author.Tests.{not-true, not-false}
 use Rattle.numbers.proofs.Laws.{bytes_of}
-use Rattle.spans.specs.Span.{overwrite}
 use Rattle.store_state.specs.declared.State.{State}
 use Rattle.store_look.specs.Look.{Lent, lent}
 use Rattle.store_quick.specs.declared.Tried.{Tried}
 use Rattle.store_append.specs.Append.{Out, Looked, append_of}
 use Rattle.store_quick.specs.Quick.{TriedOf}
-use Rattle.state_area.specs.Area.{sensible_area, state_at, area_of}
+use Rattle.state_area.specs.Area.{sensible_area, state_at}
 use Rattle.state_area.proofs.Laws.{sensible-long}
 use Rattle.state_area.proofs.Back.{loaded_saved}
 use Rattle.c_told.specs.Told.{appended}
 use Rattle.c_exports.specs.Calls.{append_in}
-use borrow.Author.Rules.{rules}
 use Rattle.c_exports.proofs.nuvrisel_append.Goals as goal
 use Rattle.c_exports.proofs.nuvrisel_append.Goals.{After-slice_known-6-1, Else-not-is_sensible_area}
 

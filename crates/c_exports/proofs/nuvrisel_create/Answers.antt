@@ -1,11 +1,10 @@
 -- 1, then 2, and else the store's answer and the state saved. Assumes nothing.
 use Prim.Native.Nat.{ℕ}
-use mathlib.Core.Path.{◌≡◌, sym, ap, ◌∙◌}
+use mathlib.Core.Path.{sym, ap, ◌∙◌}
 use mathlib.Core.List.{List}
-use borrow.Author.Tests.{not-true, not-false, le-leb, lt-leb}
+use borrow.Author.Tests.{le-leb, lt-leb}
 use Rattle.store_create.specs.Create.{Out}
 use Rattle.c_told.specs.Told.{created}
-use borrow.Author.Rules.{rules}
 use Rattle.c_exports.proofs.nuvrisel_create.Goals as goal
 
 pub returns-then-not-is_creatable : goal.returns-then-not-is_creatable

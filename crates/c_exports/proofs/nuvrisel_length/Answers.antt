@@ -1,13 +1,10 @@
 -- The store's answer, told. Assumes nothing.
 use mathlib.Core.Path.{sym, ap, ◌∙◌}
-use mathlib.Core.List.{List}
-use borrow.Author.Tests.{not-true, not-false}
 use Rattle.store_state.specs.declared.State.{State}
 use Rattle.store_look.specs.declared.Answer.{Answer}
 use Rattle.store_look.specs.Look.{Lent, lent, length_of}
 use Rattle.state_area.proofs.Laws.{sensible-long}
 use Rattle.c_told.specs.Told.{answer_told}
-use borrow.Author.Rules.{rules}
 use Rattle.c_exports.proofs.nuvrisel_length.Goals as goal
 
 pub returns-then-not-is_sensible_area : goal.returns-then-not-is_sensible_area

@@ -1,13 +1,11 @@
 -- The store's answer, told. Assumes nothing.
 use mathlib.Core.Path.{sym, ◌∙◌}
-use borrow.Author.Tests.{not-true, not-false}
 use Rattle.store_state.specs.declared.State.{State}
 use Rattle.store_look.specs.declared.Listed.{Listed}
 use Rattle.store_look.specs.Look.{lent, next_of}
 use Rattle.state_area.proofs.Laws.{sensible-long}
 use Rattle.c_told.specs.Told.{listed_told}
 use Rattle.c_told.proofs.Laws.{answered, senseless}
-use borrow.Author.Rules.{rules}
 use Rattle.c_exports.proofs.nuvrisel_next.Goals as goal
 
 pub returns-then-not-is_sensible_area : goal.returns-then-not-is_sensible_area

@@ -2,12 +2,10 @@
 use Prim.Native.Nat.{ℕ}
 use mathlib.Core.Path.{sym, ap, ◌∙◌}
 use mathlib.Core.List.{List}
-use borrow.Author.Tests.{not-true, not-false}
 use Rattle.store_state.specs.declared.State.{State}
 use Rattle.store_look.specs.Look.{Lent, lent, Read, read_of}
 use Rattle.state_area.proofs.Laws.{sensible-long}
 use Rattle.c_exports.specs.Calls.{read_told}
-use borrow.Author.Rules.{rules}
 use Rattle.c_exports.proofs.nuvrisel_read.Goals as goal
 
 pub returns-then-not-is_sensible_area : goal.returns-then-not-is_sensible_area

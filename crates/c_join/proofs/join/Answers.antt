@@ -3,14 +3,12 @@ use Prim.Native.Nat.{ℕ}
 use mathlib.Core.Path.{◌≡◌, sym, ap, ◌∙◌}
 use mathlib.Core.Bool.{true}
 use mathlib.Core.List.{List}
-use borrow.Author.Tests.{not-true, not-false}
 use Rattle.store_state.specs.declared.State.{State}
 use Rattle.store_look.specs.Look.{Lent, lent}
 use Rattle.join.specs.Join.{store, Out, out, join_of}
 use Rattle.state_area.specs.Area.{sensible_area, state_at}
 use Rattle.state_area.proofs.Laws.{sensible-long}
 use Rattle.c_join.specs.Joined.{saved_joined, joining, joined, join_in}
-use borrow.Author.Rules.{rules}
 use Rattle.c_join.proofs.join.Goals as goal
 use Rattle.c_join.proofs.join.Goals.{Else-not-is_sensible_area, Else-not-is_sensible_area-2}
 

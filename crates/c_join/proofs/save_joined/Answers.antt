@@ -1,9 +1,7 @@
 -- The state saved, and the lanes told. Assumes nothing.
 use mathlib.Core.Path.{sym, ap, ◌∙◌}
-use mathlib.Core.List.{List}
 use Rattle.join.specs.declared.Joined.{Joined}
 use Rattle.c_join.specs.Joined.{saved_joined}
-use borrow.Author.Rules.{rules}
 use Rattle.c_join.proofs.save_joined.Goals as goal
 
 pub returns-in-Whole : goal.returns-in-Whole

@@ -4,7 +4,6 @@ use mathlib.Core.Path.{sym, ap, ◌∙◌}
 use mathlib.Core.List.{List}
 use Rattle.store_append.specs.declared.Appended.{Appended}
 use Rattle.c_told.specs.Told.{saved_appended}
-use borrow.Author.Rules.{rules}
 use Rattle.c_told.proofs.save_appended.Goals as goal
 
 pub returns-in-Accepted : goal.returns-in-Accepted

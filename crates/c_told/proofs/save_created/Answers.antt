@@ -4,7 +4,6 @@ use mathlib.Core.Path.{sym, ap, ◌∙◌}
 use mathlib.Core.List.{List}
 use Rattle.store_create.specs.declared.Created.{Created}
 use Rattle.c_told.specs.Told.{saved_created}
-use borrow.Author.Rules.{rules}
 use Rattle.c_told.proofs.save_created.Goals as goal
 
 pub returns-in-Made : goal.returns-in-Made

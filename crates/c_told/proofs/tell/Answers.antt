@@ -6,7 +6,6 @@ use native.Mathlib.Omega.{arith}
 use lib.ListN.{length, length-set}
 use borrow.Author.Tests.{le-leb, lt-leb}
 use Rattle.spans.proofs.Laws.{stores}
-use borrow.Author.Rules.{rules}
 use Rattle.c_told.proofs.tell.Goals as goal
 
 pub returns-then-told-lt3 : goal.returns-then-told-lt3

@@ -1,10 +1,8 @@
 -- Each answer's code and words. Assumes nothing.
 use Prim.Native.Nat.{ℕ}
 use mathlib.Core.Path.{sym, ap, ◌∙◌}
-use mathlib.Core.List.{List}
 use Rattle.store_look.specs.declared.Answer.{Answer}
 use Rattle.c_told.specs.Told.{says, answer_told}
-use borrow.Author.Rules.{rules}
 use Rattle.c_told.proofs.tell_answer.Goals as goal
 
 pub returns-in-Absent : goal.returns-in-Absent

@@ -1,10 +1,7 @@
 -- Each answer's code and words. Assumes nothing.
-use Prim.Native.Nat.{ℕ}
 use mathlib.Core.Path.{sym, ap, ◌∙◌}
-use mathlib.Core.List.{List}
 use Rattle.store_look.specs.declared.Listed.{Listed}
 use Rattle.c_told.specs.Told.{listed_told}
-use borrow.Author.Rules.{rules}
 use Rattle.c_told.proofs.tell_listed.Goals as goal
 
 pub returns-in-Bucket : goal.returns-in-Bucket

@@ -1,10 +1,7 @@
 -- Each answer's code and words. Assumes nothing.
-use Prim.Native.Nat.{ℕ}
 use mathlib.Core.Path.{sym, ap, ◌∙◌}
-use mathlib.Core.List.{List}
 use Rattle.store_look.specs.declared.Lookup.{Lookup}
 use Rattle.c_told.specs.Told.{lookup_told}
-use borrow.Author.Rules.{rules}
 use Rattle.c_told.proofs.tell_lookup.Goals as goal
 
 pub returns-in-At : goal.returns-in-At

@@ -1,7 +1,6 @@
 -- The invariant: both areas keep their lengths. The measure is the lines that may come. Assumes nothing.
 use mathlib.Core.Path.{◌≡◌}
 use lib.ListN.{length}
-use borrow.Author.Rules.{rules}
 use Rattle.cost.proofs.tell_all.Given as goal
 
 abbrev pub invariant-loop-lines : goal.invariant-loop-lines

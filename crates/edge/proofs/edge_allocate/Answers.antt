@@ -3,7 +3,6 @@ use mathlib.Core.Path.{ap, ◌∙◌}
 use Rattle.memory_arena.specs.declared.Allocated.{Allocated}
 use Rattle.spans.specs.Span.{overwrite}
 use Rattle.edge.specs.Told.{told_allocated}
-use borrow.Author.Rules.{rules}
 use Rattle.edge.proofs.edge_allocate.Goals as goal
 
 pub returns : goal.returns

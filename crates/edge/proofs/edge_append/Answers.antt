@@ -6,7 +6,6 @@ use Rattle.store_state.specs.declared.State.{State}
 use Rattle.store_look.specs.Look.{Lent, lent}
 use Rattle.store_append.specs.Append.{Out, append_of}
 use Rattle.edge.specs.Told.{append_told}
-use borrow.Author.Rules.{rules}
 use Rattle.edge.proofs.edge_append.Goals as goal
 
 pub returns : goal.returns

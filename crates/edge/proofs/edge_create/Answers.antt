@@ -4,7 +4,6 @@ use mathlib.Core.List.{List}
 use Prim.Native.Nat.{ℕ}
 use Rattle.store_create.specs.Create.{Out}
 use Rattle.edge.specs.Told.{create_told}
-use borrow.Author.Rules.{rules}
 use Rattle.edge.proofs.edge_create.Goals as goal
 
 pub returns : goal.returns

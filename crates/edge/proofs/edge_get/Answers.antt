@@ -2,7 +2,6 @@
 use mathlib.Core.Path.{ap, ◌∙◌}
 use Rattle.memory_arena.specs.Calls.{Out}
 use Rattle.edge.specs.Told.{number_touched}
-use borrow.Author.Rules.{rules}
 use Rattle.edge.proofs.edge_get.Goals as goal
 
 pub returns : goal.returns

@@ -5,7 +5,6 @@ use Rattle.store_look.specs.declared.Answer.{Answer}
 use Rattle.store_look.specs.Look.{Lent, lent, length_of}
 use Rattle.spans.specs.Span.{overwrite}
 use Rattle.edge.specs.Told.{told_answer}
-use borrow.Author.Rules.{rules}
 use Rattle.edge.proofs.edge_length.Goals as goal
 
 pub returns : goal.returns

@@ -5,7 +5,6 @@ use Prim.Native.Nat.{ℕ}
 use Rattle.store_state.specs.declared.State.{State}
 use Rattle.store_look.specs.Look.{Lent, lent, Read, read_of}
 use Rattle.edge.specs.Told.{read_told}
-use borrow.Author.Rules.{rules}
 use Rattle.edge.proofs.edge_read.Goals as goal
 
 pub returns : goal.returns

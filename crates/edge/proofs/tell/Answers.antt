@@ -1,6 +1,5 @@
 -- A word within the area, or past its end. Assumes nothing.
 use Rattle.edge.proofs.Laws.{told_at, told_past}
-use borrow.Author.Rules.{rules}
 use Rattle.edge.proofs.tell.Goals as goal
 
 pub returns-then-told-at : goal.returns-then-told-at

@@ -3,7 +3,6 @@ use mathlib.Core.Path.{sym, ap, ◌∙◌}
 use Rattle.spans.specs.Span.{overwrite}
 use Rattle.memory_arena.specs.declared.Allocated.{Allocated}
 use Rattle.edge.specs.Told.{told_allocated}
-use borrow.Author.Rules.{rules}
 use Rattle.edge.proofs.tell_allocated.Goals as goal
 
 pub returns-in-At : goal.returns-in-At

@@ -4,7 +4,6 @@ use mathlib.Core.Path.{sym, ap, ◌∙◌}
 use Rattle.spans.specs.Span.{overwrite}
 use Rattle.store_look.specs.declared.Answer.{Answer}
 use Rattle.edge.specs.Told.{four, told_answer}
-use borrow.Author.Rules.{rules}
 use Rattle.edge.proofs.tell_answer.Goals as goal
 
 pub returns-in-Absent : goal.returns-in-Absent

@@ -3,7 +3,6 @@ use mathlib.Core.Path.{sym, ap, ◌∙◌}
 use Rattle.spans.specs.Span.{overwrite}
 use Rattle.store_append.specs.declared.Appended.{Appended}
 use Rattle.edge.specs.Told.{told_appended}
-use borrow.Author.Rules.{rules}
 use Rattle.edge.proofs.tell_appended.Goals as goal
 
 pub returns-in-Accepted : goal.returns-in-Accepted

@@ -3,7 +3,6 @@ use mathlib.Core.Path.{sym, ap, ◌∙◌}
 use Rattle.spans.specs.Span.{overwrite}
 use Rattle.store_create.specs.declared.Created.{Created}
 use Rattle.edge.specs.Told.{told_created}
-use borrow.Author.Rules.{rules}
 use Rattle.edge.proofs.tell_created.Goals as goal
 
 pub returns-in-Made : goal.returns-in-Made

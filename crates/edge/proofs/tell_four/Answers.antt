@@ -4,7 +4,6 @@ use mathlib.Core.Path.{ap, ◌∙◌}
 use mathlib.Core.List.{[], ◌∷◌}
 use Rattle.spans.specs.Span.{overwrite}
 use Rattle.edge.proofs.Laws.{told-four}
-use borrow.Author.Rules.{rules}
 use Rattle.edge.proofs.tell_four.Goals as goal
 
 pub returns : goal.returns

@@ -5,7 +5,6 @@ use mathlib.Core.Bool.{cond}
 use mathlib.Core.List.{List, [], ◌∷◌}
 use Rattle.spans.specs.Span.{overwrite}
 use Rattle.edge.proofs.Laws.{told_fours}
-use borrow.Author.Rules.{rules}
 use Rattle.edge.proofs.tell_state.Goals as goal
 
 pub returns : goal.returns

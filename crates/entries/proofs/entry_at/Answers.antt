@@ -1,7 +1,6 @@
 -- `entries::entry_at` meets its contract. Assumes nothing.
 use mathlib.Core.Path.{sym}
 use lib.ListN.{length}
-use borrow.Author.Rules.{rules}
 use Rattle.entries.proofs.Laws.{entry_short, entry_cut, entry-long, entry_whole, whole-inside}
 use Rattle.entries.proofs.entry_at.Goals as goal
 

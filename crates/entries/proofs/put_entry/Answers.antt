@@ -2,7 +2,6 @@
 use Prim.Native.Nat.{◌+◌}
 use mathlib.Core.Path.{ap, ◌∙◌}
 use lib.ListN.{length}
-use borrow.Author.Rules.{rules}
 use Rattle.numbers.specs.LittleEndian.{le_bytes}
 use Rattle.spans.specs.Span.{overwrite}
 use Rattle.entries.proofs.Laws.{entry_written}

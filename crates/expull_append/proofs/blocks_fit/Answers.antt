@@ -2,8 +2,7 @@
 -- that still wait; its measure is their number. Assumes nothing.
 use mathlib.Core.Path.{◌≡◌, refl, sym, ap, ◌∙◌}
 use native.Mathlib.Omega.{arith}
-use borrow.Author.Rules.{rules}
-use Rattle.expull_append.proofs.Loops.{planning-end, plan_left, planning-turn, planning-next, Planning, no_room}
+use Rattle.expull_append.proofs.Loops.{planning-end, plan_left, planning-turn, planning-next, no_room}
 use Rattle.expull_append.proofs.Loops.{planning-few}
 use Rattle.memory_arena.proofs.Laws.{sensible_wide}
 use Rattle.expull_append.specs.Append.{planned, plan_of, is_some}

@@ -1,12 +1,6 @@
 -- `expull_append::blocks_fit` meets its contract. The loop's invariant: the plan of the whole is the plan of the bytes
 -- that still wait; its measure is their number. Assumes nothing.
-use mathlib.Core.Path.{◌≡◌, refl, sym, ap, ◌∙◌}
-use native.Mathlib.Omega.{arith}
-use borrow.Author.Rules.{rules}
-use Rattle.expull_append.proofs.Loops.{planning-end, plan_left, planning-turn, planning-next, Planning, no_room}
-use Rattle.expull_append.proofs.Loops.{planning-few}
-use Rattle.memory_arena.proofs.Laws.{sensible_wide}
-use Rattle.expull_append.specs.Append.{planned, plan_of, is_some}
+use Rattle.expull_append.proofs.Loops.{Planning}
 use Rattle.expull_append.proofs.blocks_fit.Given as goal
 
 abbrev pub invariant-loop-left : goal.invariant-loop-left

@@ -4,11 +4,10 @@ use Prim.Native.Nat.{ℕ, ◌+◌}
 use mathlib.Core.Option.{some}
 use mathlib.Core.Path.{◌≡◌, sym, ap, ◌∙◌}
 use native.Mathlib.Omega.{arith}
-use borrow.Author.Rules.{rules}
 use lib.ListN.{length}
 use Rattle.expull_append.proofs.Laws.{tail_in, ready-kept}
 use Rattle.expull_append.proofs.Loops.{waiting_room, block_taken}
-use Rattle.expull_append.specs.Append.{Writing, writing, next_wide, header_with}
+use Rattle.expull_append.specs.Append.{writing, next_wide, header_with}
 use Rattle.memory_arena.proofs.Laws.{sensible_wide}
 use Rattle.memory_arena.specs.Pages.{room_for}
 use Rattle.limits.specs.Limits.{link_size}

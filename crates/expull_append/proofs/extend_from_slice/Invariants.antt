@@ -1,16 +1,9 @@
 -- `expull_append::extend_from_slice` meets its contract. The loop's invariant: the append of the whole is the append of
 -- the bytes that still wait; its measure is their number. Assumes nothing.
 use Prim.Native.Nat.{◌-◌}
-use mathlib.Core.Path.{refl}
-use native.Mathlib.Omega.{arith}
-use borrow.Author.Rules.{rules}
 use lib.ListN.{length}
-use Rattle.expull_header.proofs.Laws.{sound_facts}
-use Rattle.expull_append.proofs.Laws.{working_made, onward_none, Readied}
-use Rattle.expull_header.proofs.Parts.{length_part}
-use Rattle.expull_append.proofs.Loops.{Extending, extending-few, extending-room, extending-ready, chunk-fits}
-use Rattle.expull_append.proofs.Loops.{extending-next, extending-end}
-use Rattle.expull_append.specs.Append.{Writing, writing}
+use Rattle.expull_append.proofs.Loops.{Extending}
+use Rattle.expull_append.specs.Append.{writing}
 use Rattle.expull_append.proofs.extend_from_slice.Given as goal
 
 abbrev pub invariant-loop-i : goal.invariant-loop-i

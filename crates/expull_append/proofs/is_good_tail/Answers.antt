@@ -1,6 +1,5 @@
 -- `expull_append::is_good_tail` meets its contract. A list without blocks has no tail to check. Assumes nothing.
 use mathlib.Core.Path.{◌∙◌}
-use borrow.Author.Rules.{rules}
 use borrow.Author.Tests.{eq-eqb, ne_eqb}
 use Rattle.expull_append.specs.Append.{good_tail}
 use Rattle.expull_append.proofs.is_good_tail.Goals as goal

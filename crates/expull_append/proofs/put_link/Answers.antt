@@ -1,7 +1,6 @@
 -- `expull_append::put_link` meets its contract. The head of a list without blocks, else the link at the tail. Assumes
 -- nothing.
 use mathlib.Core.Path.{◌∙◌}
-use borrow.Author.Rules.{rules}
 use borrow.Author.Tests.{eq-eqb, ne_eqb}
 use Rattle.expull_append.specs.Append.{linked}
 use Rattle.expull_append.proofs.put_link.Goals as goal

@@ -2,7 +2,6 @@
 -- block's size. Assumes nothing.
 use Prim.Native.Nat.{ℕ, ◌<◌, ◌≤◌}
 use mathlib.Core.Path.{sym, subst}
-use borrow.Author.Rules.{rules}
 use Rattle.expull_header.proofs.Laws.{size_shift, size_pos, size_most}
 use Rattle.expull_header.proofs.get_block_size.Goals as goal
 

@@ -1,5 +1,4 @@
 -- `expull_header::get_end_bytes` meets its contract. The number of the last two bytes. Assumes nothing.
-use borrow.Author.Rules.{rules}
 use Rattle.expull_header.specs.Header.{end_bytes_at}
 use Rattle.expull_header.proofs.get_end_bytes.Goals as goal
 

@@ -1,5 +1,4 @@
 -- `expull_header::get_header` meets its contract. Each field is the number of its own bytes. Assumes nothing.
-use borrow.Author.Rules.{rules}
 use Rattle.expull_header.specs.Header.{header_at}
 use Rattle.expull_header.proofs.get_header.Goals as goal
 

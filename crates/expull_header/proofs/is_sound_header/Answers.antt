@@ -1,6 +1,5 @@
 -- `expull_header::is_sound_header` meets its contract. The tests of a list without blocks, and those of another.
 -- Assumes nothing.
-use borrow.Author.Rules.{rules}
 use borrow.Author.Tests.{eq-eqb, ne_eqb}
 use Rattle.expull_header.specs.Header.{sound_header}
 use Rattle.expull_header.proofs.is_sound_header.Goals as goal

@@ -3,7 +3,6 @@
 use Prim.Native.Nat.{◌≤◌}
 use mathlib.Core.Path.{sym}
 use native.Mathlib.Omega.{arith}
-use borrow.Author.Rules.{rules}
 use Rattle.expull_header.proofs.Laws.{SoundHeader, sound_facts, size_least, size_most, length_none, length_low}
 use Rattle.expull_header.proofs.Laws.{length_high}
 use Rattle.expull_header.specs.Header.{block_size}

@@ -1,7 +1,6 @@
 -- `expull_header::put_header` meets its contract. The fields' writes, one after the other, are the write of the
 -- header's bytes. Assumes nothing.
 use mathlib.Core.Path.{sym}
-use borrow.Author.Rules.{rules}
 use Rattle.expull_header.proofs.Laws.{header_written}
 use Rattle.expull_header.proofs.put_header.Goals as goal
 

@@ -5,7 +5,6 @@ use mathlib.Core.Bool.{true}
 use mathlib.Core.List.{List}
 use mathlib.Core.Path.{◌≡◌, refl, sym, ap, ◌∙◌}
 use native.Mathlib.Omega.{arith}
-use borrow.Author.Rules.{rules}
 use Rattle.numbers.proofs.Tests.{left_false}
 use Rattle.memory_arena.specs.declared.Arena.{Arena}
 use Rattle.memory_arena.proofs.Laws.{sensible_facts}

@@ -2,7 +2,6 @@
 -- nothing.
 use mathlib.Core.Path.{sym, ◌∙◌}
 use native.Mathlib.Omega.{arith}
-use borrow.Author.Rules.{rules}
 use Rattle.expull_header.proofs.Laws.{sound_facts}
 use Rattle.expull_walk.proofs.Laws.{block_last, block_whole}
 use Rattle.expull_walk.proofs.block_length.Goals as goal

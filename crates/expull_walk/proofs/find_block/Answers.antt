@@ -4,8 +4,6 @@ use Prim.Native.Nat.{suc}
 use mathlib.Core.Bool.{Bool, true, false}
 use mathlib.Core.Path.{◌≡◌, sym, ◌∙◌}
 use native.Mathlib.Omega.{arith}
-use borrow.Author.Rules.{rules}
-use borrow.Author.Tests.{not-true, not-false}
 use Rattle.memory_arena.proofs.Laws.{sensible_facts}
 use Rattle.expull_header.proofs.Laws.{SoundHeader, sound_facts}
 use Rattle.expull_walk.proofs.Laws.{blocks_more, walk_true, walk_false, blocks_end, find_none, find_bad, find_at}

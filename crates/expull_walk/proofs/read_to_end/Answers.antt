@@ -4,10 +4,9 @@ use Rattle.limits.specs.Limits.{link_size}
 use Prim.Native.Nat.{ℕ, ◌-◌, ◌+◌, ◌≤◌}
 use mathlib.Core.Path.{◌≡◌, ap, ◌∙◌}
 use native.Mathlib.Omega.{arith}
-use borrow.Author.Rules.{rules}
 use lib.ListN.{length}
 use Rattle.expull_header.proofs.Parts.{length_part}
-use Rattle.expull_walk.proofs.Loops.{reading-length, Readable, Reading, Piece, reading-begun, reading-piece}
+use Rattle.expull_walk.proofs.Loops.{reading-length, Readable, Piece, reading-begun, reading-piece}
 use Rattle.expull_walk.proofs.Loops.{reading-next, reading_last, reading-end, reading_none}
 use Rattle.expull_header.proofs.Laws.{sound_facts}
 use Rattle.expull_walk.proofs.read_to_end.Goals as goal

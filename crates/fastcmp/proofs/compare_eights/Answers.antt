@@ -1,8 +1,8 @@
 -- `fastcmp::compare_eights` meets its contract. The invariant: equal as far as `i`. Assumes nothing.
 use Prim.Native.Nat.{◌-◌}
-use mathlib.Core.Path.{◌≡◌, refl, sym, ◌∙◌}
+use mathlib.Core.Path.{refl, sym, ◌∙◌}
 use native.Mathlib.Omega.{arith}
-use lib.ListN.{length, take}
+use lib.ListN.{length}
 use Rattle.fastcmp.proofs.Laws.{span_same, eight-on, eight_not, eight_last}
 use Rattle.fastcmp.proofs.compare_eights.Goals as goal
 

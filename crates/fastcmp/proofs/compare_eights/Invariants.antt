@@ -1,9 +1,7 @@
 -- `fastcmp::compare_eights` meets its contract. The invariant: equal as far as `i`. Assumes nothing.
 use Prim.Native.Nat.{◌-◌}
-use mathlib.Core.Path.{◌≡◌, refl, sym, ◌∙◌}
-use native.Mathlib.Omega.{arith}
-use lib.ListN.{length, take}
-use Rattle.fastcmp.proofs.Laws.{span_same, eight-on, eight_not, eight_last}
+use mathlib.Core.Path.{◌≡◌}
+use lib.ListN.{take}
 use Rattle.fastcmp.proofs.compare_eights.Given as goal
 
 abbrev pub invariant-loop-i : goal.invariant-loop-i

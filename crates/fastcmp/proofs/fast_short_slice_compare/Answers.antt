@@ -2,7 +2,6 @@
 -- Assumes nothing.
 use mathlib.Core.Path.{sym}
 use Rattle.fastcmp.proofs.Laws.{equal_long}
-use borrow.Author.Rules.{rules}
 use Rattle.fastcmp.proofs.fast_short_slice_compare.Goals as goal
 
 pub returns-then-len-right : goal.returns-then-len-right

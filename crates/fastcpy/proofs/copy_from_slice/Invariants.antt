@@ -1,14 +1,9 @@
 -- `fastcpy::copy_from_slice` meets its contract. The invariant: the destination is as it was, with the first `i` bytes
 -- of the source written over its front. Assumes nothing.
-use Prim.Native.Nat.{◌≤◌, ◌-◌, zero-le}
-use mathlib.Core.Path.{◌≡◌, refl, sym, ap, ◌∙◌}
-use native.Mathlib.Omega.{arith}
-use native.Mathlib.Numerals.{add-one}
-use lib.Seq.{take_all}
+use Prim.Native.Nat.{◌≤◌, ◌-◌}
+use mathlib.Core.Path.{◌≡◌}
 use lib.ListN.{length, take}
 use Rattle.spans.specs.Span.{overwrite}
-use Rattle.fastcpy.proofs.Laws.{overwrite-rest}
-use Rattle.spans.proofs.Laws.{overwrite_none, length-overwrite, copy_turn}
 use Rattle.fastcpy.proofs.copy_from_slice.Given as goal
 
 abbrev pub invariant-loop-i : goal.invariant-loop-i

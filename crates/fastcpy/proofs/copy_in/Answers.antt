@@ -4,7 +4,6 @@ use mathlib.Core.Path.{◌≡◌, ap, ◌∙◌}
 use native.Mathlib.Omega.{arith}
 use lib.ListN.{length, take, drop}
 use borrow.Rule.Slice.PartMut.{mid_len}
-use borrow.Author.Rules.{rules}
 use Rattle.fastcpy.specs.Copy.{Out}
 use Rattle.fastcpy.proofs.Laws.{copy_done}
 use Rattle.spans.proofs.Laws.{part_back}

@@ -1,12 +1,11 @@
 -- `fastcpy::copy_parts` meets its contract. The invariant: as far as the parts have come, the destination is the
 -- source. Assumes nothing.
-use Prim.Native.Nat.{◌≤◌, ◌-◌, zero-le}
+use Prim.Native.Nat.{◌-◌, zero-le}
 use mathlib.Core.Path.{◌≡◌, refl, sym, ◌∙◌}
 use native.Mathlib.Omega.{arith}
 use lib.Seq.{take_all}
 use lib.ListN.{length, take, drop}
 use borrow.Rule.Slice.PartMut.{mid_len}
-use borrow.Author.Rules.{rules}
 use Rattle.fastcpy.proofs.Laws.{part_on_back}
 use Rattle.fastcpy.proofs.copy_parts.Goals as goal
 

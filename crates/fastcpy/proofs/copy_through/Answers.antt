@@ -2,7 +2,6 @@
 use mathlib.Core.Path.{refl, ◌∙◌}
 use native.Mathlib.Omega.{arith}
 use Rattle.fastcpy.proofs.Laws.{no_bytes, front_back}
-use borrow.Author.Rules.{rules}
 use Rattle.fastcpy.proofs.copy_through.Goals as goal
 
 pub returns-then-n-eq0 : goal.returns-then-n-eq0

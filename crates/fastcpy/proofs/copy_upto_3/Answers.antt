@@ -2,7 +2,6 @@
 use native.Mathlib.Omega.{arith}
 use lib.ListN.{length-set}
 use Rattle.fastcpy.proofs.Laws.{three-bytes, no_bytes}
-use borrow.Author.Rules.{rules}
 use Rattle.fastcpy.proofs.copy_upto_3.Goals as goal
 
 pub returns-then-len-eq0 : goal.returns-then-len-eq0

@@ -4,7 +4,6 @@ use mathlib.Core.Path.{refl}
 use native.Mathlib.Omega.{arith}
 use lib.ListN.{length}
 use Rattle.fastcpy.proofs.Laws.{four_words}
-use borrow.Author.Rules.{rules}
 use Rattle.fastcpy.proofs.copy_words.Goals as goal
 
 pub returns : goal.returns

@@ -2,7 +2,6 @@
 use mathlib.Core.Path.{refl, sym}
 use native.Mathlib.Omega.{arith}
 use Rattle.fastcpy.proofs.Laws.{copy_refused, out_done}
-use borrow.Author.Rules.{rules}
 use Rattle.fastcpy.proofs.fast_short_slice_copy.Goals as goal
 
 pub returns-then-src-dst : goal.returns-then-src-dst

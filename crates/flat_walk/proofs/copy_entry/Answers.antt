@@ -2,10 +2,8 @@
 use Prim.Native.Nat.{ℕ, ◌+◌, ◌-◌, ◌≤◌}
 use mathlib.Core.Path.{◌≡◌, sym, ◌∙◌, subst}
 use mathlib.Core.Bool.{true}
-use mathlib.Core.List.{List}
 use native.Mathlib.Omega.{arith}
 use lib.ListN.{length}
-use borrow.Author.Rules.{rules}
 use Rattle.spans.specs.Span.{read_span}
 use Rattle.spans.proofs.Laws.{length_span}
 use Rattle.fastcmp.specs.Equal.{equal_bytes}

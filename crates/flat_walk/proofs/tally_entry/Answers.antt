@@ -1,7 +1,6 @@
 -- `flat_walk::tally_entry` meets its contract. Assumes nothing.
 use Prim.Native.Nat.{◌-◌}
 use mathlib.Core.Path.{sym, ◌∙◌}
-use borrow.Author.Rules.{rules}
 use Rattle.spans.specs.Span.{read_span}
 use Rattle.flat_walk.proofs.Turns.{tally-same, tally_other}
 use Rattle.flat_walk.proofs.tally_entry.Goals as goal

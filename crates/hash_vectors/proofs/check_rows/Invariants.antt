@@ -1,7 +1,6 @@
 -- The invariant: every buffer keeps its length. The measure is the lines that may come. Assumes nothing.
 use mathlib.Core.Path.{◌≡◌}
 use lib.ListN.{length}
-use borrow.Author.Rules.{rules}
 use Rattle.hash_vectors.proofs.check_rows.Given as goal
 
 abbrev pub invariant-loop-lines : goal.invariant-loop-lines

@@ -1,9 +1,6 @@
 -- The invariant: the key keeps its length. The measure is what is left of it. Assumes nothing.
-use Prim.Native.Nat.{◌≤◌, ◌-◌}
-use mathlib.Core.Path.{◌≡◌}
 use native.Mathlib.Omega.{arith}
-use borrow.Author.Rules.{rules}
-use lib.ListN.{length, length-set}
+use lib.ListN.{length-set}
 use Rattle.hash_vectors.proofs.fill.Goals as goal
 
 pub loop-i-smaller : goal.loop-i-smaller

@@ -1,9 +1,7 @@
 -- The invariant: the key keeps its length. The measure is what is left of it. Assumes nothing.
 use Prim.Native.Nat.{◌≤◌, ◌-◌}
 use mathlib.Core.Path.{◌≡◌}
-use native.Mathlib.Omega.{arith}
-use borrow.Author.Rules.{rules}
-use lib.ListN.{length, length-set}
+use lib.ListN.{length}
 use Rattle.hash_vectors.proofs.fill.Given as goal
 
 abbrev pub invariant-loop-i : goal.invariant-loop-i

@@ -6,7 +6,6 @@ use Rattle.store_look.specs.Look.{lent}
 use Rattle.report.proofs.Written.{standing_key}
 use Rattle.join.specs.Join.{store}
 use Rattle.join.proofs.Laws.{bring_is}
-use borrow.Author.Rules.{rules}
 use Rattle.join.proofs.bring.Goals as goal
 use Rattle.join.proofs.bring.Goals.{Start}
 

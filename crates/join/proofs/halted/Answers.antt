@@ -2,7 +2,6 @@
 use mathlib.Core.Path.{sym, ap}
 use Rattle.store_append.specs.declared.Appended.{Appended}
 use Rattle.join.specs.Bring.{halted_of}
-use borrow.Author.Rules.{rules}
 use Rattle.join.proofs.halted.Goals as goal
 
 pub returns-in-Accepted : goal.returns-in-Accepted

@@ -1,11 +1,8 @@
 -- `join::join` meets its contract. Assumes nothing.
 use mathlib.Core.Path.{sym, ◌∙◌}
-use borrow.Author.Tests.{not-true, not-false}
 use Rattle.store_look.specs.Look.{lent}
-use Rattle.history.specs.History.{World}
 use Rattle.join.specs.Join.{store}
 use Rattle.join.proofs.Fair.{told, join_2, join_2_second, join_on}
-use borrow.Author.Rules.{rules}
 use Rattle.join.proofs.join.Goals as goal
 
 pub returns-then-not-is_whole_state : goal.returns-then-not-is_whole_state

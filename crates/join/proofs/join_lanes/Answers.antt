@@ -1,19 +1,16 @@
 -- `join::join_lanes` meets its contract. The invariant, `Joining`: what is left to join makes of the stores as they are
 -- now what all of it makes of them as they were. Assumes nothing.
-use Prim.Native.Nat.{ℕ, ◌-◌, ◌≤◌, ◌<◌}
+use Prim.Native.Nat.{◌≤◌, ◌<◌}
 use mathlib.Core.Path.{◌≡◌, sym, ap, ◌∙◌, subst}
-use mathlib.Core.List.{List}
 use native.Mathlib.Omega.{arith}
 use lib.ListN.{length}
-use Rattle.store_look.specs.Look.{Lent, lent}
+use Rattle.store_look.specs.Look.{lent}
 use Rattle.report_lanes.specs.declared.NextLane.TheVariants.{Lane}
 use Rattle.report_lanes.specs.Measure.{next_lane_of, Small}
-use Rattle.history.specs.History.{World}
 use Rattle.join.specs.declared.Joined.{Joined}
 use Rattle.join.specs.Join.{store, out}
-use Rattle.join.proofs.Laws.{Joining, joining_starts, joining-few, met-ready, turn_short, turn_accepted}
+use Rattle.join.proofs.Laws.{joining_starts, joining-few, met-ready, turn_short, turn_accepted}
 use Rattle.join.proofs.Laws.{turn-declined, turn_over, turns_end}
-use borrow.Author.Rules.{rules}
 use borrow.Enum.Refused.{opened}
 use Rattle.join.proofs.join_lanes.Goals as goal
 use Rattle.join.proofs.join_lanes.Goals.{After-bring-a, In-Lane}

@@ -3,7 +3,6 @@ use mathlib.Core.Path.{sym, ap}
 use Rattle.report_lanes.specs.declared.NextLane.{NextLane}
 use Rattle.join.specs.Bring.{over_of}
 use Rattle.join.proofs.Laws.{over_whole}
-use borrow.Author.Rules.{rules}
 use borrow.Enum.Refused.{opened}
 use Rattle.join.proofs.over.Goals as goal
 

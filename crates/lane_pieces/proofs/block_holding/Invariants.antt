@@ -1,10 +1,7 @@
 -- Behind the twelfth block by a quotient; before it the loop's invariant: the byte isn't before block i, and `held` is
 -- what the blocks up to it hold. Its measure is how far that is from the byte. Assumes nothing.
 use Prim.Native.Nat.{suc, ◌-◌}
-use native.Mathlib.Omega.{arith}
-use borrow.Author.Rules.{rules}
-use Rattle.lane_pieces.proofs.Places.{Seeking, seeking-begun, seeking-few, seeking-next}
-use Rattle.lane_pieces.proofs.Places.{seeking-end, holding_high}
+use Rattle.lane_pieces.proofs.Places.{Seeking}
 use Rattle.lane_pieces.proofs.block_holding.Given as goal
 
 abbrev pub invariant-loop-held : goal.invariant-loop-held

@@ -1,11 +1,10 @@
 -- The loop's invariant: what is copied and what lies in the blocks from block i on make up the whole; its measure is
 -- how many blocks are left. Assumes nothing.
-use Prim.Native.Nat.{◌-◌, ◌+◌, ◌≤◌}
+use Prim.Native.Nat.{◌+◌, ◌≤◌}
 use native.Mathlib.Omega.{arith}
-use borrow.Author.Rules.{rules}
 use lib.ListN.{length}
 use Rattle.limits.specs.Limits.{link_size}
-use Rattle.lane_pieces.proofs.Loops.{Copying, copying-begun, copying-in, copying-fits, copying-next, copying-end}
+use Rattle.lane_pieces.proofs.Loops.{copying-begun, copying-in, copying-fits, copying-next, copying-end}
 use Rattle.lane_pieces.proofs.Loops.{length_part}
 use Rattle.lane_pieces.proofs.copy_on.Goals as goal
 use Rattle.lane_pieces.proofs.copy_on.Goals.{After-get_block_size-size, After-least-k}

@@ -1,12 +1,7 @@
 -- The loop's invariant: what is copied and what lies in the blocks from block i on make up the whole; its measure is
 -- how many blocks are left. Assumes nothing.
-use Prim.Native.Nat.{◌-◌, ◌+◌, ◌≤◌}
-use native.Mathlib.Omega.{arith}
-use borrow.Author.Rules.{rules}
-use lib.ListN.{length}
-use Rattle.limits.specs.Limits.{link_size}
-use Rattle.lane_pieces.proofs.Loops.{Copying, copying-begun, copying-in, copying-fits, copying-next, copying-end}
-use Rattle.lane_pieces.proofs.Loops.{length_part}
+use Prim.Native.Nat.{◌-◌}
+use Rattle.lane_pieces.proofs.Loops.{Copying}
 use Rattle.lane_pieces.proofs.copy_on.Given as goal
 
 abbrev pub invariant-loop-i : goal.invariant-loop-i

@@ -2,7 +2,6 @@
 use mathlib.Core.Path.{ap, ◌∙◌}
 use Prim.Native.Nat.{ℕ, ◌+◌, ◌-◌}
 use native.Mathlib.Omega.{arith}
-use borrow.Author.Rules.{rules}
 use Rattle.expull_header.proofs.Laws.{size_least}
 use Rattle.lane_pieces.proofs.Places.{full_low, full_high}
 use Rattle.lane_pieces.proofs.full_bytes.Goals as goal

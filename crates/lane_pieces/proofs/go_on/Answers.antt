@@ -2,8 +2,6 @@
 use mathlib.Core.Path.{◌≡◌, sym, ap, ◌∙◌}
 use Prim.Native.Nat.{ℕ, ◌+◌, ◌-◌}
 use native.Mathlib.Omega.{arith}
-use borrow.Author.Rules.{rules}
-use borrow.Author.Tests.{not-true, not-false}
 use Rattle.lane_pieces.specs.Piece.{blocks_met}
 use Rattle.lane_pieces.proofs.Pieces.{going-met, going-few, going-copyable, gone-stopped, gone_done}
 use Rattle.lane_pieces.proofs.go_on.Goals as goal

@@ -1,6 +1,5 @@
 -- Case by case. Assumes nothing.
 use mathlib.Core.Path.{sym, ap}
-use borrow.Author.Rules.{rules}
 use Rattle.lane_pieces.specs.Piece.{not_found}
 use Rattle.lane_pieces.proofs.not_found.Goals as goal
 

@@ -1,7 +1,6 @@
 -- The lookup's answer, or the piece at the place found. Assumes nothing.
 use mathlib.Core.Bool.{true}
 use mathlib.Core.Path.{◌≡◌, sym, ap, subst, ◌∙◌}
-use borrow.Author.Rules.{rules}
 use lib.ListN.{length}
 use Rattle.limits.specs.Refusals.{reading_piece, permitted}
 use Rattle.store_look.specs.declared.Lookup.TheVariants.{At}

@@ -3,11 +3,8 @@ use Prim.Native.Nat.{ℕ, ◌-◌, ◌≤◌, ◌<◌, min}
 use mathlib.Core.Bool.{Bool, true, false, cond}
 use mathlib.Core.Path.{◌≡◌, sym, ap, ◌∙◌}
 use native.Mathlib.Omega.{arith}
-use borrow.Author.Rules.{rules}
-use borrow.Author.Tests.{not-true, not-false}
 use lib.ListN.{length}
 use Rattle.records.proofs.Laws.{Headed, head-found, head_lost}
-use Rattle.expull_header.specs.declared.Header.{Header}
 use Rattle.expull_header.specs.Header.{lane_length}
 use Rattle.lane_pieces.specs.declared.Pieced.TheVariants.{Given, Refused}
 use Rattle.lane_pieces.specs.Piece.{piece_length, out, piece_at}

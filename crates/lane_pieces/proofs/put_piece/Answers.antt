@@ -1,6 +1,5 @@
 -- The block in which the bytes begin is found, and from there it goes on. Assumes nothing.
 use native.Mathlib.Omega.{arith}
-use borrow.Author.Rules.{rules}
 use Rattle.lane_pieces.proofs.Pieces.{within_short, within-going, put_bad, put-stopped, put_done}
 use borrow.Enum.Refused.{opened}
 use Rattle.lane_pieces.proofs.put_piece.Goals as goal

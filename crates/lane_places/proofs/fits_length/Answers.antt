@@ -1,6 +1,5 @@
 -- The count, then the block. Assumes nothing.
 use mathlib.Core.Path.{sym}
-use borrow.Author.Rules.{rules}
 use Rattle.lane_places.proofs.PieceOn.{fits_above, fits_far, fits_by}
 use Rattle.lane_places.proofs.fits_length.Goals as goal
 

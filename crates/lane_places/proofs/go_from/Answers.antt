@@ -1,6 +1,5 @@
 -- From the place's block on, and where that came to. Assumes nothing.
 use mathlib.Core.Path.{◌∙◌}
-use borrow.Author.Rules.{rules}
 use Rattle.lane_places.specs.PieceOn.{out}
 use Rattle.lane_places.proofs.PieceOn.{gone-stopped, gone_done}
 use Rattle.lane_places.proofs.go_from.Goals as goal

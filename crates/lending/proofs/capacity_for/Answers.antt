@@ -1,7 +1,6 @@
 -- `lending::capacity_for` meets its contract. Assumes nothing.
 use native.Mathlib.Omega.{arith}
 use Rattle.lending.proofs.Laws.{capacity_none, capacity_is, capacity_small}
-use borrow.Author.Rules.{rules}
 use Rattle.lending.proofs.capacity_for.Goals as goal
 
 pub returns-then-lanes-eq0 : goal.returns-then-lanes-eq0

@@ -4,7 +4,6 @@ use mathlib.Core.Path.{◌≡◌, ap}
 use native.Mathlib.Nat.{mod-le}
 use native.Mathlib.Omega.{arith}
 use Rattle.lending.proofs.Laws.{records_some, pages_small, rest-small}
-use borrow.Author.Rules.{rules}
 use Rattle.lending.proofs.key_bytes_for.Goals as goal
 use Rattle.lending.proofs.key_bytes_for.Goals.{After-least}
 

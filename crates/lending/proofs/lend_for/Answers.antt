@@ -1,15 +1,13 @@
 -- `lending::lend_for` meets its contract. Assumes nothing.
-use Prim.Native.Nat.{ℕ, ◌-◌, ◌*◌, ◌≤◌}
-use mathlib.Core.Path.{◌≡◌, sym, ap, ◌∙◌}
+use Prim.Native.Nat.{◌-◌, ◌*◌, ◌≤◌}
+use mathlib.Core.Path.{◌≡◌, sym, ◌∙◌}
 use mathlib.Core.Bool.{Bool, true, ◌&&◌}
 use native.Mathlib.Omega.{arith}
 use lib.Dec.{leb}
 use Rattle.limits.specs.Limits.{page_taken, page_least, page_most, arena_limit_for, bucket_limit, name_limit_for}
 use Rattle.lending.specs.declared.Lend.TheVariants.{Areas}
 use Rattle.lending.specs.Lending.{key_bytes_for, list_bytes_for, capacity_for, asks_few, lends_few}
-use borrow.Author.Tests.{not-true, not-false}
 use Rattle.lending.proofs.Laws.{most_is, asked_facts, lend_no_page, lend_asked, lend_lent, lend_areas}
-use borrow.Author.Rules.{rules}
 use Rattle.lending.proofs.lend_for.Goals as goal
 use Rattle.lending.proofs.lend_for.Goals.{After-least-name_most, After-list_bytes_for-lists, Else-not-are_few, Else-not-is_page_size}
 

@@ -2,7 +2,6 @@
 use Prim.Native.Nat.{max}
 use mathlib.Core.Path.{ap, ◌∙◌}
 use Rattle.lending.specs.Lending.{block_tail, with_tails}
-use borrow.Author.Rules.{rules}
 use Rattle.lending.proofs.list_bytes_for.Goals as goal
 
 pub returns : goal.returns

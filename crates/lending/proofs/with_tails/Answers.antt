@@ -3,7 +3,6 @@ use Prim.Native.Nat.{◌-◌}
 use native.Mathlib.Omega.{arith}
 use native.Mathlib.Nat.{div-le_self}
 use Rattle.lending.proofs.Laws.{tails_one, tails_more, tails_small}
-use borrow.Author.Rules.{rules}
 use Rattle.lending.proofs.with_tails.Goals as goal
 
 pub returns-then-total-page : goal.returns-then-total-page

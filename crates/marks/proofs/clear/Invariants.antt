@@ -1,8 +1,6 @@
 use Prim.Native.Nat.{ℕ, ◌-◌, ◌<◌}
-use mathlib.Core.Path.{◌≡◌, refl}
-use native.Mathlib.Omega.{arith}
-use lib.ListN.{length, get_or, length-set}
-use Rattle.marks.proofs.Laws.{cleared-turn, cleared-end}
+use mathlib.Core.Path.{◌≡◌}
+use lib.ListN.{length, get_or}
 use Rattle.marks.proofs.clear.Given as goal
 
 abbrev pub invariant-loop-i : goal.invariant-loop-i

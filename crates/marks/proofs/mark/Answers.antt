@@ -1,7 +1,6 @@
 use mathlib.Core.Bool.{true, false}
 use mathlib.Core.Path.{◌≡◌, ap, ◌∙◌}
 use native.Mathlib.Omega.{arith}
-use borrow.Author.Rules.{rules}
 use borrow.Author.Tests.{eq-eqb, ne_eqb}
 use Rattle.marks.specs.Bits.{out, marked}
 use Rattle.marks.proofs.Laws.{one-marked, one-fresh, code_marked, code_fits, code_set}

@@ -1,6 +1,5 @@
 -- A whole byte, or one place. Assumes nothing.
 use Rattle.marks.proofs.Laws.{stride_byte, stride_one}
-use borrow.Author.Rules.{rules}
 use Rattle.marks.proofs.mark_some.Goals as goal
 
 pub returns-then-left-at : goal.returns-then-left-at

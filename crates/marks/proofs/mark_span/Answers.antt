@@ -1,9 +1,7 @@
 -- The whole marking is that of the places left. Assumes nothing.
-use Prim.Native.Nat.{◌+◌, ◌-◌, ◌*◌, ◌^◌, ◌≤◌, ◌<◌}
 use mathlib.Core.Path.{◌≡◌, refl, sym, ◌∙◌}
 use native.Mathlib.Omega.{arith}
 use lib.ListN.{length}
-use Rattle.marks.specs.Bits.{mark_span}
 use Rattle.marks.proofs.Laws.{span_end}
 use Rattle.marks.proofs.mark_span.Goals as goal
 

@@ -1,8 +1,7 @@
 -- A product of two 32-bit numbers and one more of them fit 64 bits. Assumes nothing.
-use Prim.Native.Nat.{ℕ, ◌*◌, ◌+◌, ◌≤◌}
+use Prim.Native.Nat.{◌*◌, ◌≤◌}
 use native.Mathlib.Nat.{mul-le-mul_left}
 use native.Mathlib.Omega.{arith}
-use borrow.Author.Rules.{rules}
 use Rattle.memory_arena.proofs.addr_new.Goals as goal
 use Rattle.memory_arena.proofs.addr_new.Goals.{Start}
 

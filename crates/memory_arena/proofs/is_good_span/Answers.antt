@@ -2,7 +2,6 @@
 use Prim.Native.Nat.{ℕ, ◌<◌, ◌-◌}
 use mathlib.Core.Path.{◌≡◌, sym, ap, subst, ◌∙◌}
 use native.Mathlib.Omega.{arith}
-use borrow.Author.Rules.{rules}
 use lib.Dec.{leb}
 use Rattle.memory_arena.proofs.Laws.{good_past, good_over, good-within}
 use Rattle.memory_arena.specs.Pages.{used_on}

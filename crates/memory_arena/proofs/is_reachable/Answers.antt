@@ -1,6 +1,5 @@
 -- The state check, then the span. Assumes nothing.
 use mathlib.Core.Path.{sym, ◌∙◌}
-use borrow.Author.Rules.{rules}
 use Rattle.memory_arena.proofs.Laws.{sensible_facts, reach_good, reach_none}
 use Rattle.memory_arena.proofs.is_reachable.Goals as goal
 

@@ -4,8 +4,6 @@ use mathlib.Core.Bool.{true, ◌&&◌}
 use mathlib.Core.Path.{◌≡◌, sym, ap, ◌∙◌}
 use native.Mathlib.Nat.{mul-le-mul_left}
 use native.Mathlib.Omega.{arith}
-use borrow.Author.Rules.{rules}
-use borrow.Author.Tests.{not-true, not-false}
 use lib.Dec.{leb, ltb}
 use Rattle.limits.specs.Limits.{page_taken, page_most}
 use Rattle.memory_arena.proofs.Laws.{sensible_unsized, sensible_past, sensible_code}

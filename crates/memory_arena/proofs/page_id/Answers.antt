@@ -1,8 +1,5 @@
 -- The shift is the quotient. Assumes nothing.
-use Prim.Native.Nat.{ℕ, ◌/◌, ◌^◌}
-use mathlib.Core.Path.{◌≡◌, ap, ◌∙◌}
 use native.Mathlib.Omega.{arith}
-use borrow.Author.Rules.{rules}
 use Rattle.memory_arena.proofs.Laws.{shift_size, shift_page, page_small}
 use Rattle.memory_arena.proofs.page_id.Goals as goal
 

@@ -1,6 +1,5 @@
 -- A span that may be touched lies in the pages. Assumes nothing.
 use mathlib.Core.Path.{refl, sym, ap, ◌∙◌}
-use borrow.Author.Rules.{rules}
 use lib.ListN.{length}
 use Rattle.memory_arena.proofs.Laws.{reach_in, write_done, write_declined}
 use Rattle.memory_arena.specs.Calls.{out}

@@ -1,6 +1,5 @@
 -- The last lines of the algorithm, as they stand. Assumes nothing.
 use mathlib.Core.Path.{ap}
-use borrow.Author.Rules.{rules}
 use Rattle.murmurhash2.specs.Murmur.{ended, shift_xor}
 use Rattle.murmurhash2.proofs.end.Goals as goal
 

@@ -1,11 +1,8 @@
 -- The invariant: the bytes from i on, taken into h, give what all the bytes give at the start. The measure is what is
 -- left. Assumes nothing.
-use Prim.Native.Nat.{ℕ, ◌+◌, ◌-◌, ◌≤◌, zero-le}
-use mathlib.Core.Path.{◌≡◌, refl, sym, ap, ◌∙◌}
-use native.Mathlib.Omega.{arith}
-use borrow.Author.Rules.{rules}
+use Prim.Native.Nat.{◌-◌, ◌≤◌}
+use mathlib.Core.Path.{◌≡◌}
 use lib.ListN.{length, drop}
-use Rattle.murmurhash2.proofs.Laws.{taken-turn}
 use Rattle.murmurhash2.specs.Murmur.{taken}
 use Rattle.murmurhash2.proofs.fours.Given as goal
 

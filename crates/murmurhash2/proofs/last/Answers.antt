@@ -2,7 +2,6 @@
 use Prim.Native.Nat.{ℕ}
 use mathlib.Core.Path.{sym, ap, ◌∙◌}
 use native.Mathlib.Omega.{arith}
-use borrow.Author.Rules.{rules}
 use lib.Bits.{bit_xor}
 use Rattle.murmurhash2.proofs.Laws.{taken_none, taken_1, taken_2, taken_3}
 use Rattle.murmurhash2.specs.Murmur.{m}

@@ -1,6 +1,5 @@
 -- Three bytes as a number. Assumes nothing.
 use native.Mathlib.Omega.{arith}
-use borrow.Author.Rules.{rules}
 use Rattle.numbers.specs.LittleEndian.{le_number}
 use Rattle.murmurhash2.proofs.le_upto_3.Goals as goal
 

@@ -1,7 +1,6 @@
 -- The lines for k, as they stand. Assumes nothing.
 use Prim.Native.Nat.{ℕ}
 use mathlib.Core.Path.{ap, ◌∙◌}
-use borrow.Author.Rules.{rules}
 use Rattle.murmurhash2.specs.Murmur.{mixed, m, shift_xor}
 use Rattle.numbers.specs.Wrap.{wrap_mul}
 use Rattle.murmurhash2.proofs.mix.Goals as goal

@@ -1,7 +1,6 @@
 -- The start, all the bytes, the end. Assumes nothing.
 use mathlib.Core.Path.{ap, ◌∙◌}
 use Rattle.murmurhash2.specs.Murmur.{ended, murmur_hash2}
-use borrow.Author.Rules.{rules}
 use Rattle.murmurhash2.proofs.murmurhash2.Goals as goal
 
 pub returns-then-n-lt4 : goal.returns-then-n-lt4

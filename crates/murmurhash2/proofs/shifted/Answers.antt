@@ -2,7 +2,6 @@
 use Prim.Native.Nat.{◌^◌}
 use native.Mathlib.Nat.{div-le_self}
 use native.Mathlib.Omega.{arith}
-use borrow.Author.Rules.{rules}
 use Rattle.murmurhash2.proofs.shifted.Goals as goal
 
 pub overflow_cast-result-3 : goal.overflow_cast-result-3

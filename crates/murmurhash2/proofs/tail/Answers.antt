@@ -7,7 +7,6 @@ use lib.ListN.{length, drop, length-drop}
 use Rattle.murmurhash2.proofs.Laws.{taken_none, taken_tail}
 use Rattle.murmurhash2.specs.Murmur.{m}
 use Rattle.numbers.specs.Wrap.{wrap_mul}
-use borrow.Author.Rules.{rules}
 use Rattle.murmurhash2.proofs.tail.Goals as goal
 
 pub returns-then-left-eq0 : goal.returns-then-left-eq0

@@ -1,5 +1,4 @@
 -- The line for h, as it stands. Assumes nothing.
-use borrow.Author.Rules.{rules}
 use lib.Bits.{bit_xor}
 use Rattle.murmurhash2.specs.Murmur.{turned}
 use Rattle.murmurhash2.proofs.turn.Goals as goal

@@ -1,9 +1,7 @@
 -- `number_pieces::cleared` meets its contract. The loop's invariant, `Clearing`: zeros stand behind the held bytes so
 -- far. Assumes nothing.
-use Prim.Native.Nat.{◌-◌}
 use native.Mathlib.Omega.{arith}
-use Rattle.limits.specs.Limits.{held_limit}
-use Rattle.number_pieces.proofs.Loops.{Clearing, clearing_starts, clearing-on, clearing-ends}
+use Rattle.number_pieces.proofs.Loops.{clearing_starts, clearing-on, clearing-ends}
 use Rattle.number_pieces.proofs.cleared.Goals as goal
 
 pub loop-i-init : goal.loop-i-init

@@ -1,8 +1,6 @@
 -- `number_pieces::does_take` meets its contract. Assumes nothing.
 use mathlib.Core.Path.{sym, ◌∙◌}
 use native.Mathlib.Omega.{arith}
-use borrow.Author.Rules.{rules}
-use borrow.Author.Tests.{not-true, not-false}
 use Rattle.number_pieces.proofs.Turns.{takes_many, takes_top, takes-room}
 use Rattle.number_pieces.proofs.does_take.Goals as goal
 

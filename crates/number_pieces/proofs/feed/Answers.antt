@@ -4,7 +4,7 @@ use mathlib.Core.Bool.{true}
 use native.Mathlib.Omega.{arith}
 use lib.ListN.{length}
 use borrow.Author.Rules.{rules}
-use borrow.Author.Tests.{not-true, not-false, lt-leb, le-leb}
+use borrow.Author.Tests.{lt-leb, le-leb}
 use Rattle.limits.specs.Limits.{held_limit}
 use Rattle.number_pieces.specs.declared.Fed.{Fed}
 use Rattle.number_pieces.specs.Feed.{takes, out}

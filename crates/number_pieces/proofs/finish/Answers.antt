@@ -2,7 +2,6 @@
 use Prim.Native.Nat.{ℕ, ◌+◌}
 use mathlib.Core.Path.{ap, ◌∙◌}
 use mathlib.Core.List.{List}
-use borrow.Author.Rules.{rules}
 use Rattle.number_pieces.specs.declared.Stop.TheVariants.{Going}
 use Rattle.number_pieces.specs.Feed.{fed}
 use Rattle.number_pieces.proofs.Turns.{finish_fault, finish_cut, finish_empty, finish_on, held_padded}

@@ -1,10 +1,7 @@
 -- `number_pieces::is_low` meets its contract. The loop's invariant: the bytes so far lack the top bit. Assumes nothing.
-use Prim.Native.Nat.{◌-◌, ◌≤◌}
 use mathlib.Core.Path.{◌≡◌, sym}
 use mathlib.Core.Bool.{true}
 use native.Mathlib.Omega.{arith}
-use lib.ListN.{take}
-use Rattle.number_pieces.specs.Feed.{no_top}
 use Rattle.number_pieces.proofs.Loops.{low_none, low_on, low_off}
 use Rattle.number_pieces.proofs.is_low.Goals as goal
 

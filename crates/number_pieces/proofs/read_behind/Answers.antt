@@ -4,9 +4,8 @@ use Prim.Native.Nat.{ℕ, ◌+◌, ◌-◌}
 use mathlib.Core.Path.{◌≡◌, refl, ap, ◌∙◌}
 use native.Mathlib.Omega.{arith}
 use lib.ListN.{take, set, length-set}
-use borrow.Author.Rules.{rules}
 use Rattle.vint.specs.Vint.{read_vint}
-use Rattle.number_pieces.proofs.Loops.{Copying, copying_starts, copying-on, copying-ends}
+use Rattle.number_pieces.proofs.Loops.{copying_starts, copying-on, copying-ends}
 use Rattle.number_pieces.proofs.read_behind.Goals as goal
 
 pub loop-i-init : goal.loop-i-init

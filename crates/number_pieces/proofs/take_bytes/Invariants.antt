@@ -1,13 +1,8 @@
 -- `number_pieces::take_bytes` meets its contract. The loop's invariant, `Taking`: what the whole piece comes to is what
 -- the rest comes to from here. Assumes nothing.
-use Prim.Native.Nat.{◌-◌, ◌<◌}
-use mathlib.Core.Path.{◌≡◌}
-use native.Mathlib.Omega.{arith}
+use Prim.Native.Nat.{◌-◌}
 use lib.ListN.{length}
-use borrow.Author.Rules.{rules}
-use Rattle.limits.specs.Limits.{held_limit}
-use Rattle.number_pieces.proofs.Turns.{Taking, taking_starts, taking-same, taking-next, taking-on, taking_off}
-use Rattle.number_pieces.proofs.Turns.{taking-ends}
+use Rattle.number_pieces.proofs.Turns.{Taking}
 use Rattle.number_pieces.proofs.take_bytes.Given as goal
 
 abbrev pub invariant-loop-s : goal.invariant-loop-s

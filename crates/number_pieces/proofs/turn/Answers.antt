@@ -1,6 +1,5 @@
 -- `number_pieces::turn` meets its contract. Assumes nothing.
 use mathlib.Core.Path.{sym, ◌∙◌}
-use borrow.Author.Rules.{rules}
 use borrow.Author.Tests.{ltb-true}
 use lib.Dec.{ltb}
 use Rattle.numbers.proofs.Tests.{both}

@@ -1,6 +1,5 @@
 -- Four bytes as a number. Assumes nothing.
 use native.Mathlib.Omega.{arith}
-use borrow.Author.Rules.{rules}
 use Rattle.numbers.specs.LittleEndian.{le_number}
 use Rattle.numbers.proofs.le_4.Goals as goal
 

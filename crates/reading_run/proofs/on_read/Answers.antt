@@ -1,5 +1,4 @@
 -- `reading_run::on_read` meets its contract. Assumes nothing.
-use borrow.Author.Rules.{rules}
 use mathlib.Core.Path.{ap, ◌∙◌, sym}
 use mir.Syntax.{w32}
 use mir.Facts.{to_z-of_z}

@@ -1,5 +1,4 @@
 -- `reading_run::put` meets its contract. Assumes nothing.
-use borrow.Author.Rules.{rules}
 use Rattle.reading_run.proofs.Turns.{set_past}
 use Rattle.reading_run.proofs.put.Goals as goal
 

@@ -1,11 +1,8 @@
 -- `reading_run::take_bytes` meets its contract: byte by byte, the rest of them still to come. Assumes nothing.
-use Prim.Native.Nat.{◌-◌}
 use mathlib.Core.Path.{◌∙◌}
 use native.Mathlib.Omega.{arith}
 use native.Mathlib.Numerals.{towards_suc}
-use borrow.Author.Rules.{rules}
-use lib.ListN.{length}
-use Rattle.reading_run.proofs.Turns.{Taking, taking-begun, taking-on, taking-end}
+use Rattle.reading_run.proofs.Turns.{taking-begun, taking-on, taking-end}
 use Rattle.reading_run.proofs.take_bytes.Goals as goal
 
 pub loop-i-init : goal.loop-i-init

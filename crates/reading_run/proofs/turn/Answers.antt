@@ -1,13 +1,11 @@
 -- `reading_run::turn` meets its contract. Assumes nothing.
-use borrow.Author.Rules.{rules}
 use Prim.Native.Nat.{◌+◌}
 use mathlib.Core.Path.{◌≡◌, ap, ◌∙◌, sym}
 use native.Mathlib.Omega.{arith}
-use lib.ListN.{set, length-set}
+use lib.ListN.{length-set}
 use mir.Syntax.{w32}
 use mir.Val.{to_z, of_z}
 use mir.Facts.{to_z-of_z}
-use Rattle.vint.specs.declared.Unvint.{Unvint}
 use Rattle.reading_run.specs.declared.Run.{Run}
 use Rattle.reading_run.specs.Run.{out, run_with, on_read, holding}
 use Rattle.reading_run.proofs.Turns.{turn_stopped, turn-held, turn-read}

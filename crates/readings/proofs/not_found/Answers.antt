@@ -1,5 +1,4 @@
 -- `readings::not_found` meets its contract. Assumes nothing.
-use borrow.Author.Rules.{rules}
 use mathlib.Core.Path.{sym, ap}
 use Rattle.readings.specs.Readings.{not_found}
 use Rattle.readings.proofs.not_found.Goals as goal

@@ -1,5 +1,4 @@
 -- `readings::readings` meets its contract: the lookup's answer, or the readings at the place found. Assumes nothing.
-use borrow.Author.Rules.{rules}
 use mathlib.Core.Bool.{true}
 use mathlib.Core.Path.{◌≡◌, sym, ap, subst, ◌∙◌}
 use lib.ListN.{length}

@@ -1,11 +1,9 @@
 -- `readings::readings_at` meets its contract: header, blocks, whole readings, places, how the bytes end, in this order.
 -- Assumes nothing.
-use borrow.Author.Rules.{rules}
 use Prim.Native.Nat.{ℕ, ◌≤◌, ◌<◌}
 use mathlib.Core.Bool.{true}
 use mathlib.Core.Path.{◌≡◌, sym, ap, subst, ◌∙◌}
 use native.Mathlib.Omega.{arith}
-use borrow.Author.Tests.{not-true, not-false}
 use lib.ListN.{length}
 use Rattle.expull_header.specs.Header.{block_count}
 use Rattle.expull_walk.specs.Blocks.{good_blocks, lane_bytes}

@@ -3,11 +3,10 @@
 use Prim.Native.Nat.{ℕ, ◌-◌, ◌+◌, ◌≤◌}
 use mathlib.Core.Path.{◌≡◌, ap, ◌∙◌}
 use native.Mathlib.Omega.{arith}
-use borrow.Author.Rules.{rules}
 use lib.ListN.{length}
 use Rattle.limits.specs.Limits.{link_size}
 use Rattle.expull_header.proofs.Laws.{sound_facts}
-use Rattle.readings.proofs.Lanes.{Walkable, Walking, Ready, walking_none, walking-begun, same-long}
+use Rattle.readings.proofs.Lanes.{Walkable, Ready, walking_none, walking-begun, same-long}
 use Rattle.readings.proofs.Lanes.{walking-piece, walking-next, walking_last, walking-end}
 use Rattle.readings.proofs.take_lane.Goals as goal
 use Rattle.readings.proofs.take_lane.Goals.{After-get_block_size-size, After-get_block_size-size-2, At-loop-i}

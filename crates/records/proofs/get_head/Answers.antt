@@ -1,7 +1,6 @@
 -- The header that was read is the record's, and so is the test. Assumes nothing.
 use Prim.Native.Nat.{ℕ, ◌+◌, ◌≤◌}
 use mathlib.Core.Path.{◌≡◌, sym, ap, subst, ◌∙◌}
-use borrow.Author.Rules.{rules}
 use lib.ListN.{length}
 use Rattle.records.proofs.Laws.{head-sound, head-broken}
 use Rattle.records.specs.Record.{header_sound, value_place}

@@ -2,8 +2,6 @@
 -- good. Assumes nothing.
 use mathlib.Core.Path.{sym, ◌∙◌}
 use lib.ListN.{length}
-use borrow.Author.Tests.{not-true, not-false}
-use borrow.Author.Rules.{rules}
 use Rattle.memory_arena.proofs.Laws.{good-in, sensible_facts}
 use Rattle.records.proofs.Laws.{record_short, record-whole}
 use Rattle.records.proofs.is_good_record.Goals as goal

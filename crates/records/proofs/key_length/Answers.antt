@@ -1,5 +1,4 @@
 -- `shared_arena_hashmap::key_length` meets its contract. The number read is that of the length bytes. Assumes nothing.
-use borrow.Author.Rules.{rules}
 use Rattle.records.specs.Record.{key_length}
 use Rattle.records.proofs.key_length.Goals as goal
 

@@ -1,7 +1,6 @@
 -- Three writes in a row are one. Assumes nothing.
 use Prim.Native.Nat.{◌+◌}
 use mathlib.Core.Path.{ap, ◌∙◌}
-use borrow.Author.Rules.{rules}
 use lib.ListN.{length}
 use Rattle.records.proofs.Laws.{record_written}
 use Rattle.expull_header.specs.Header.{header_bytes}

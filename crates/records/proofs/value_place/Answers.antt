@@ -1,7 +1,6 @@
 -- The key's length was read from the record. Assumes nothing.
 use Prim.Native.Nat.{ℕ, ◌+◌}
 use mathlib.Core.Path.{ap}
-use borrow.Author.Rules.{rules}
 use Rattle.records.specs.Record.{value_place}
 use Rattle.records.proofs.value_place.Goals as goal
 

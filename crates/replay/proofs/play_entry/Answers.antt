@@ -3,7 +3,6 @@ use Rattle.store_look.specs.Look.{lent}
 use Rattle.replay.specs.Script.{world}
 use Rattle.history.specs.History.{left}
 use mathlib.Core.Path.{ap, ◌∙◌}
-use borrow.Author.Rules.{rules}
 use Rattle.replay.proofs.play_entry.Goals as goal
 
 pub returns : goal.returns

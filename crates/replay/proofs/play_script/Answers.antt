@@ -2,14 +2,13 @@ use Rattle.entries.specs.declared.Next.{Next}
 use Rattle.entries.specs.declared.Next.TheVariants.{Whole}
 use Rattle.entries.specs.Form.{Inside}
 use Rattle.replay.proofs.Laws.{calls_from, turn-ends, turn-plays, turns_over}
-use Rattle.replay.specs.Script.{world, calls_of}
+use Rattle.replay.specs.Script.{world}
 use Rattle.history.specs.History.{play}
 use Rattle.store_look.specs.Look.{lent}
-use borrow.Author.Rules.{rules}
 use native.Mathlib.Omega.{arith}
 use lib.ListN.{length}
-use mathlib.Core.Path.{◌≡◌, refl, sym, ap, ◌∙◌, subst}
-use Prim.Native.Nat.{◌-◌, ◌≤◌}
+use mathlib.Core.Path.{refl, sym, ap, ◌∙◌, subst}
+use Prim.Native.Nat.{◌-◌}
 use Rattle.replay.proofs.play_script.Goals as goal
 use Rattle.replay.proofs.play_script.Goals.{In-Whole}
 

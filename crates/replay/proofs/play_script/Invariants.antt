@@ -1,15 +1,10 @@
-use Rattle.entries.specs.declared.Next.{Next}
-use Rattle.entries.specs.declared.Next.TheVariants.{Whole}
-use Rattle.entries.specs.Form.{Inside}
-use Rattle.replay.proofs.Laws.{calls_from, turn-ends, turn-plays, turns_over}
+use Rattle.replay.proofs.Laws.{calls_from}
 use Rattle.replay.specs.Script.{world, calls_of}
 use Rattle.history.specs.History.{play}
 use Rattle.store_look.specs.Look.{lent}
-use borrow.Author.Rules.{rules}
-use native.Mathlib.Omega.{arith}
 use lib.ListN.{length}
-use mathlib.Core.Path.{◌≡◌, refl, sym, ap, ◌∙◌, subst}
-use Prim.Native.Nat.{◌-◌, ◌≤◌}
+use mathlib.Core.Path.{◌≡◌}
+use Prim.Native.Nat.{◌≤◌}
 use Rattle.replay.proofs.play_script.Given as goal
 
 abbrev pub invariant-loop-turns : goal.invariant-loop-turns

@@ -4,7 +4,6 @@ use Rattle.store_look.specs.Look.{Lent, lent}
 use Rattle.store_create.specs.Create.{out as Create·out}
 use Rattle.store_create.specs.declared.Created.{Created}
 use mathlib.Core.Path.{◌≡◌, sym, ap, ◌∙◌, subst}
-use borrow.Author.Rules.{rules}
 use Rattle.replay.proofs.replay.Goals as goal
 
 pub returns-in_default : goal.returns-in_default

@@ -1,6 +1,5 @@
 use Rattle.history.specs.History.{state_after}
 use mathlib.Core.Path.{sym, ap}
-use borrow.Author.Rules.{rules}
 use Rattle.replay.proofs.state_of.Goals as goal
 
 pub returns-in-Accepted : goal.returns-in-Accepted

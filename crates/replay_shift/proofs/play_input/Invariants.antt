@@ -1,8 +1,6 @@
 -- The invariant: every area keeps its length. The measure is the lines that may come. Assumes nothing.
 use mathlib.Core.Path.{◌≡◌}
 use lib.ListN.{length}
-use native.Mathlib.Omega.{arith}
-use borrow.Author.Rules.{rules}
 use Rattle.replay_shift.proofs.play_input.Given as goal
 
 abbrev pub invariant-loop-lines : goal.invariant-loop-lines

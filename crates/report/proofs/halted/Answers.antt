@@ -1,7 +1,6 @@
 -- `report::halted` meets its contract. Assumes nothing.
 use mathlib.Core.Path.{sym, ap}
 use Rattle.report.specs.Write.{halted_of}
-use borrow.Author.Rules.{rules}
 use Rattle.report.proofs.halted.Goals as goal
 
 pub returns : goal.returns

@@ -1,18 +1,13 @@
 -- `report::report` meets its contract. Assumes nothing.
-use Prim.Native.Nat.{ℕ, ◌+◌, ◌≤◌}
-use mathlib.Core.Path.{◌≡◌, refl, sym, ap, ◌∙◌, subst}
-use mathlib.Core.List.{List}
+use Prim.Native.Nat.{◌+◌}
+use mathlib.Core.Path.{sym, ap, ◌∙◌, subst}
 use native.Mathlib.Omega.{arith}
 use lib.ListN.{length}
-use borrow.Author.Rules.{rules}
-use borrow.Author.Tests.{not-true, not-false}
 use Rattle.spans.proofs.Laws.{length-overwrite}
 use Rattle.store_look.specs.Look.{lent}
-use Rattle.report_text.specs.Text.{decimal, head_text, lanes_text}
 use Rattle.report.specs.declared.Reported.{Reported}
 use Rattle.report.specs.Report.{out}
 use Rattle.report_lanes.specs.Measure.{Few}
-use Rattle.report.specs.Write.{lanes_met}
 use Rattle.report_lanes.proofs.Measuring.{decimal_most}
 use Rattle.report.proofs.Written.{head-long}
 use Rattle.report.proofs.Reporting.{report_2, report_halted, sums, head_size, report_8, report_done, told}

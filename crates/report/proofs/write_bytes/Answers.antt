@@ -3,7 +3,6 @@ use native.Mathlib.Omega.{arith}
 use lib.ListN.{length-take, length-drop}
 use Rattle.store_look.specs.Look.{lent}
 use Rattle.report.proofs.Written.{spread_back, standing-lane, standing-read}
-use borrow.Author.Rules.{rules}
 use Rattle.report.proofs.write_bytes.Goals as goal
 
 pub returns : goal.returns

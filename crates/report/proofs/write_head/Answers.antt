@@ -1,7 +1,7 @@
 -- `report::write_head` meets its contract: one line behind the other. Assumes nothing.
 use Prim.Native.Nat.{ℕ, ◌+◌}
-use mathlib.Core.Path.{◌≡◌, refl, sym, ap, ◌∙◌}
-use mathlib.Core.List.{List, [], ◌∷◌}
+use mathlib.Core.Path.{refl, ap, ◌∙◌}
+use mathlib.Core.List.{List, []}
 use native.Mathlib.Omega.{arith}
 use lib.ListN.{length}
 use Rattle.spans.specs.Span.{overwrite}
@@ -9,7 +9,6 @@ use Rattle.spans.proofs.Laws.{length-overwrite}
 use Rattle.report_text.specs.Text.{store_line, terms_word, total_word, decimal, line}
 use Rattle.report_put.proofs.Laws.{line-long}
 use Rattle.report.proofs.Written.{put_first, put_next, head-lines, head-long}
-use borrow.Author.Rules.{rules}
 use Rattle.report.proofs.write_head.Goals as goal
 
 pub copy_in-requires : goal.copy_in-requires

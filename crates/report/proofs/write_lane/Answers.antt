@@ -15,7 +15,6 @@ use Rattle.report_put.proofs.Laws.{line-long}
 use Rattle.report_lanes.specs.Lanes.{lane_at}
 use Rattle.report.proofs.Written.{Put, put_first, put_next, put-length, standing_key, standing-lane, lane_key}
 use Rattle.report.proofs.Written.{key_size, lane-own, lane-lines}
-use borrow.Author.Rules.{rules}
 use Rattle.report.proofs.write_lane.Goals as goal
 use Rattle.report.proofs.write_lane.Goals.{After-copy_in, After-put_hex_line-a, After-put_number_line-b, After-write_bytes, Start}
 

@@ -1,5 +1,4 @@
 -- The measure is the texts that could come. Assumes nothing.
-use borrow.Author.Rules.{rules}
 use mathlib.Core.Path.{◌≡◌}
 use lib.ListN.{length}
 use Rattle.report_cases.proofs.all.Given as goal

@@ -1,5 +1,4 @@
 -- The measure is what is left to skip. Assumes nothing.
-use borrow.Author.Rules.{rules}
 use mathlib.Core.Path.{◌≡◌}
 use lib.ListN.{length}
 use Rattle.report_cases.proofs.skip.Given as goal

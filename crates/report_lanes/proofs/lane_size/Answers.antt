@@ -1,8 +1,6 @@
 -- `report_lanes::lane_size` meets its contract. Assumes nothing.
-use mathlib.Core.Path.{sym, ap, ◌∙◌}
 use native.Mathlib.Omega.{arith}
 use Rattle.report_lanes.proofs.Measuring.{decimal_most}
-use borrow.Author.Rules.{rules}
 use Rattle.report_lanes.proofs.lane_size.Goals as goal
 
 pub overflow_add-result-2 : goal.overflow_add-result-2

@@ -4,7 +4,6 @@ use native.Mathlib.Omega.{arith}
 use Rattle.store_look.specs.Look.{lent}
 use Rattle.report_lanes.specs.Measure.{on_answer, Small}
 use Rattle.report_lanes.proofs.Measuring.{met_is, met-small}
-use borrow.Author.Rules.{rules}
 use Rattle.report_lanes.proofs.meet.Goals as goal
 
 pub returns : goal.returns

@@ -1,11 +1,9 @@
 -- `report_lanes::next_lane` meets its contract. Assumes nothing.
-use mathlib.Core.Path.{sym, ap, ◌∙◌}
-use native.Mathlib.Omega.{arith}
+use mathlib.Core.Path.{sym, ◌∙◌}
 use lib.ListN.{length}
 use Rattle.store_look.specs.Look.{lent}
 use Rattle.store_state.proofs.Whole.{whole_facts}
 use Rattle.report_lanes.proofs.Measuring.{next-held, value_in, next_listed}
-use borrow.Author.Rules.{rules}
 use Rattle.report_lanes.proofs.next_lane.Goals as goal
 
 pub meet-requires : goal.meet-requires

@@ -3,7 +3,6 @@ use mathlib.Core.Path.{sym, ap, ◌∙◌}
 use borrow.Author.Tests.{eq-eqb, ne_eqb}
 use Rattle.store_look.specs.declared.Answer.{Answer}
 use Rattle.report_lanes.specs.Measure.{on_answer}
-use borrow.Author.Rules.{rules}
 use Rattle.report_lanes.proofs.on_answer.Goals as goal
 
 pub returns-then-k-eq8 : goal.returns-then-k-eq8

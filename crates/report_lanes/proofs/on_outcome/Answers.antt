@@ -2,7 +2,6 @@
 use mathlib.Core.Path.{sym, ap}
 use Rattle.store_look.specs.declared.Outcome.{Outcome}
 use Rattle.report_lanes.specs.Measure.{on_outcome}
-use borrow.Author.Rules.{rules}
 use Rattle.report_lanes.proofs.on_outcome.Goals as goal
 
 pub returns-in-Reading : goal.returns-in-Reading

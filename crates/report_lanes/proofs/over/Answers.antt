@@ -1,10 +1,8 @@
 -- `report_lanes::over` meets its contract. Assumes nothing.
-use Prim.Native.Nat.{ℕ}
 use mathlib.Core.Path.{sym, ap}
 use Rattle.report_lanes.specs.declared.NextLane.{NextLane}
 use Rattle.report_lanes.specs.Measure.{over_of}
 use Rattle.report_lanes.proofs.Measuring.{over_sums}
-use borrow.Author.Rules.{rules}
 use borrow.Enum.Refused.{opened}
 use Rattle.report_lanes.proofs.over.Goals as goal
 

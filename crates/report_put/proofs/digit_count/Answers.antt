@@ -1,9 +1,6 @@
 -- `report_put::digit_count` meets its contract. Assumes nothing.
-use Prim.Native.Nat.{◌+◌, ◌-◌, ◌*◌, ◌/◌, ◌%◌, ◌≤◌, ◌<◌}
-use mathlib.Core.Path.{◌≡◌, refl, sym, ap, ◌∙◌}
 use native.Mathlib.Omega.{arith}
-use lib.ListN.{length, drop, length-set, length-drop}
-use Rattle.report_put.proofs.Laws.{Counting, counting_starts, counting-on, counting-ends}
+use Rattle.report_put.proofs.Laws.{counting_starts, counting-on, counting-ends}
 use Rattle.report_put.proofs.digit_count.Goals as goal
 
 pub loop-rest-init : goal.loop-rest-init

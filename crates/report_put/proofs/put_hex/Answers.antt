@@ -1,9 +1,8 @@
 -- `report_put::put_hex` meets its contract. Assumes nothing.
-use Prim.Native.Nat.{◌+◌, ◌-◌, ◌*◌, ◌/◌, ◌%◌, ◌≤◌, ◌<◌}
-use mathlib.Core.Path.{◌≡◌, refl, sym, ap, ◌∙◌}
+use mathlib.Core.Path.{refl}
 use native.Mathlib.Omega.{arith}
-use lib.ListN.{length, drop, length-set, length-drop}
-use Rattle.report_put.proofs.Laws.{Putting, putting_starts, putting-length, putting-on, putting-ends}
+use lib.ListN.{length-set}
+use Rattle.report_put.proofs.Laws.{putting_starts, putting-length, putting-on, putting-ends}
 use Rattle.report_put.proofs.put_hex.Goals as goal
 
 pub loop-i-init : goal.loop-i-init

@@ -1,9 +1,7 @@
 -- `report_put::put_hex` meets its contract. Assumes nothing.
-use Prim.Native.Nat.{◌+◌, ◌-◌, ◌*◌, ◌/◌, ◌%◌, ◌≤◌, ◌<◌}
-use mathlib.Core.Path.{◌≡◌, refl, sym, ap, ◌∙◌}
-use native.Mathlib.Omega.{arith}
-use lib.ListN.{length, drop, length-set, length-drop}
-use Rattle.report_put.proofs.Laws.{Putting, putting_starts, putting-length, putting-on, putting-ends}
+use Prim.Native.Nat.{◌-◌}
+use lib.ListN.{length}
+use Rattle.report_put.proofs.Laws.{Putting}
 use Rattle.report_put.proofs.put_hex.Given as goal
 
 abbrev pub invariant-loop-i : goal.invariant-loop-i

@@ -1,12 +1,11 @@
 -- `report_put::put_number_line` meets its contract. Assumes nothing.
-use Prim.Native.Nat.{◌+◌, ◌*◌, ◌≤◌}
-use mathlib.Core.Path.{◌≡◌, refl, sym, ap, ◌∙◌}
+use Prim.Native.Nat.{◌≤◌}
+use mathlib.Core.Path.{refl, ap, ◌∙◌}
 use native.Mathlib.Omega.{arith}
 use lib.ListN.{length, length-set}
 use Rattle.spans.proofs.Laws.{length-overwrite}
 use Rattle.report_text.specs.Text.{decimal}
 use Rattle.report_put.proofs.Laws.{line-long, line-put}
-use borrow.Author.Rules.{rules}
 use Rattle.report_put.proofs.put_number_line.Goals as goal
 use Rattle.report_put.proofs.put_number_line.Goals.{Start}
 

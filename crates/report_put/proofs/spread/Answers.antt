@@ -1,9 +1,8 @@
 -- `report_put::spread` meets its contract. Assumes nothing.
-use Prim.Native.Nat.{◌+◌, ◌-◌, ◌*◌, ◌/◌, ◌%◌, ◌≤◌, ◌<◌}
-use mathlib.Core.Path.{◌≡◌, refl, sym, ap, ◌∙◌}
+use Prim.Native.Nat.{◌+◌}
 use native.Mathlib.Omega.{arith}
-use lib.ListN.{length, drop, length-set, length-drop}
-use Rattle.report_put.proofs.Laws.{Putting, putting_starts, putting-length, putting-on, spread-read, spread-ends}
+use lib.ListN.{drop, length-set, length-drop}
+use Rattle.report_put.proofs.Laws.{putting_starts, putting-length, putting-on, spread-read, spread-ends}
 use Rattle.report_put.proofs.spread.Goals as goal
 
 pub loop-i-init : goal.loop-i-init

@@ -1,9 +1,7 @@
 -- `report_put::spread` meets its contract. Assumes nothing.
-use Prim.Native.Nat.{◌+◌, ◌-◌, ◌*◌, ◌/◌, ◌%◌, ◌≤◌, ◌<◌}
-use mathlib.Core.Path.{◌≡◌, refl, sym, ap, ◌∙◌}
-use native.Mathlib.Omega.{arith}
-use lib.ListN.{length, drop, length-set, length-drop}
-use Rattle.report_put.proofs.Laws.{Putting, putting_starts, putting-length, putting-on, spread-read, spread-ends}
+use Prim.Native.Nat.{◌-◌}
+use lib.ListN.{drop}
+use Rattle.report_put.proofs.Laws.{Putting}
 use Rattle.report_put.proofs.spread.Given as goal
 
 abbrev pub invariant-loop-i : goal.invariant-loop-i

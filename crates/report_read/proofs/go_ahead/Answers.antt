@@ -2,7 +2,6 @@
 use Prim.Native.Nat.{◌+◌, ◌*◌}
 use native.Mathlib.Omega.{arith}
 use Rattle.report_read.proofs.Lines.{ahead_short, ahead_far}
-use borrow.Author.Rules.{rules}
 use Rattle.report_read.proofs.go_ahead.Goals as goal
 
 pub returns-then-left-n : goal.returns-then-left-n

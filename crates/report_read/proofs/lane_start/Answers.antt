@@ -1,11 +1,8 @@
 -- `report_read::lane_start` meets its contract. The invariant: the lane is as many lanes on from here as are
 -- left. Assumes nothing.
-use Prim.Native.Nat.{◌≤◌}
 use mathlib.Core.Path.{◌≡◌, sym, ap, ◌∙◌}
 use native.Mathlib.Omega.{arith}
-use lib.ListN.{length}
-use borrow.Author.Rules.{rules}
-use Rattle.report_read.specs.Lines.{lanes_on, first_lane}
+use Rattle.report_read.specs.Lines.{lanes_on}
 use Rattle.report_read.proofs.Lines.{lanes_next, lanes_none}
 use Rattle.report_read.proofs.lane_start.Goals as goal
 

@@ -1,10 +1,7 @@
 -- `report_read::line_end` meets its contract. The invariant: the line's end from the start is its end from `i`.
 -- Assumes nothing.
-use Prim.Native.Nat.{◌+◌, ◌-◌, ◌≤◌}
-use mathlib.Core.Path.{◌≡◌, refl}
+use mathlib.Core.Path.{refl}
 use native.Mathlib.Omega.{arith}
-use lib.ListN.{length, drop}
-use Rattle.report_read.specs.Lines.{line_length}
 use Rattle.report_read.proofs.Lines.{length_stop, length_goes, length-end}
 use Rattle.report_read.proofs.line_end.Goals as goal
 

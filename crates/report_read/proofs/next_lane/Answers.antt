@@ -1,6 +1,5 @@
 -- `report_read::next_lane` meets its contract. Assumes nothing.
 use mathlib.Core.Path.{ap, ◌∙◌}
-use borrow.Author.Rules.{rules}
 use Rattle.report_read.specs.Places.{number_told}
 use Rattle.report_read.proofs.Lines.{lane-found}
 use Rattle.report_read.proofs.next_lane.Goals as goal

@@ -1,7 +1,6 @@
 -- The measure is what is left of the area. Assumes nothing.
 use lib.ListN.{length}
 use Prim.Native.Nat.{◌≤◌, ◌-◌}
-use borrow.Author.Rules.{rules}
 use Rattle.say.proofs.is_kept.Given as goal
 
 abbrev pub invariant-loop-i : goal.invariant-loop-i

@@ -1,9 +1,6 @@
 -- The invariant: the area keeps its length. The measure is the bytes that are left. Assumes nothing.
-use Prim.Native.Nat.{◌≤◌, ◌-◌}
-use mathlib.Core.Path.{◌≡◌}
-use lib.ListN.{length, length-set}
+use lib.ListN.{length-set}
 use native.Mathlib.Omega.{arith}
-use borrow.Author.Rules.{rules}
 use Rattle.say.proofs.lay_out.Goals as goal
 
 pub bounds-into-i-in-loop-i : goal.bounds-into-i-in-loop-i

@@ -1,9 +1,7 @@
 -- The invariant: the area keeps its length. The measure is the bytes that are left. Assumes nothing.
 use Prim.Native.Nat.{◌≤◌, ◌-◌}
 use mathlib.Core.Path.{◌≡◌}
-use lib.ListN.{length, length-set}
-use native.Mathlib.Omega.{arith}
-use borrow.Author.Rules.{rules}
+use lib.ListN.{length}
 use Rattle.say.proofs.lay_out.Given as goal
 
 abbrev pub invariant-loop-i : goal.invariant-loop-i

@@ -5,7 +5,6 @@ use native.Mathlib.Omega.{arith}
 use lib.Count.{count_leading_zeros, leading_top}
 use Rattle.shared_arena_hashmap.specs.Power.{rounded_down}
 use Rattle.shared_arena_hashmap.proofs.Laws.{rounded_at, rounded_0}
-use borrow.Author.Rules.{rules}
 use Rattle.shared_arena_hashmap.proofs.compute_previous_power_of_two.Goals as goal
 use Rattle.shared_arena_hashmap.proofs.compute_previous_power_of_two.Goals.{Else-n-eq0}
 

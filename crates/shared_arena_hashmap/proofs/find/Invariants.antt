@@ -1,13 +1,8 @@
 -- `shared_arena_hashmap::find` meets its contract. The invariant: the whole lookup is the rest of the walk from `i`,
 -- with `looked` buckets behind it and `left` to go. Assumes nothing.
-use Prim.Native.Nat.{◌+◌, ◌-◌, ◌<◌}
-use mathlib.Core.Path.{◌≡◌, refl, sym, ◌∙◌}
-use native.Mathlib.Omega.{arith}
-use borrow.Author.Rules.{rules}
-use Rattle.shared_arena_hashmap.specs.Probe.{on_seen, next_bucket, probe, lookup}
-use Rattle.shared_arena_hashmap.specs.declared.Seen.{Seen}
-use Rattle.shared_arena_hashmap.specs.declared.Walk.{Walk}
-use Rattle.shared_arena_hashmap.proofs.Laws.{probe-turn, probe-end}
+use Prim.Native.Nat.{◌+◌, ◌<◌}
+use mathlib.Core.Path.{◌≡◌}
+use Rattle.shared_arena_hashmap.specs.Probe.{probe, lookup}
 use Rattle.shared_arena_hashmap.proofs.find.Given as goal
 
 abbrev pub invariant-loop-left : goal.invariant-loop-left

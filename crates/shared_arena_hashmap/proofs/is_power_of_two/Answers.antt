@@ -2,7 +2,6 @@
 use Prim.Native.Nat.{ℕ}
 use mathlib.Core.Path.{ap}
 use lib.Dec.{eqb}
-use borrow.Author.Rules.{rules}
 use Rattle.shared_arena_hashmap.specs.Power.{power_of_two}
 use Rattle.shared_arena_hashmap.proofs.is_power_of_two.Goals as goal
 

@@ -1,7 +1,6 @@
 -- `shared_arena_hashmap::next_bucket` meets its contract. Both answers follow from the test. Assumes nothing.
 use native.Mathlib.Omega.{arith}
 use borrow.Author.Tests.{eq-eqb, ne_eqb}
-use borrow.Author.Rules.{rules}
 use Rattle.shared_arena_hashmap.proofs.next_bucket.Goals as goal
 
 pub returns-then-i-l : goal.returns-then-i-l

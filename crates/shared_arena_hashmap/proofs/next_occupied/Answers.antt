@@ -1,11 +1,9 @@
 -- `shared_arena_hashmap::next_occupied` meets its contract. The invariant: the answer is that of the buckets from `i +
 -- k` on. Assumes nothing.
-use Prim.Native.Nat.{◌+◌, ◌-◌, ◌≤◌}
-use mathlib.Core.Path.{◌≡◌, sym, ◌∙◌}
+use mathlib.Core.Path.{sym, ◌∙◌}
 use native.Mathlib.Nat.{sub-zero, add-zero}
 use native.Mathlib.Omega.{arith}
 use borrow.Author.Tests.{eq-eqb, ne_eqb}
-use Rattle.shared_arena_hashmap.specs.Probe.{occupied_from}
 use Rattle.shared_arena_hashmap.proofs.Laws.{occupied-turn, occupied-end}
 use Rattle.shared_arena_hashmap.proofs.next_occupied.Goals as goal
 

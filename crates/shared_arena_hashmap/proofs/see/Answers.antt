@@ -3,7 +3,6 @@ use mathlib.Core.Bool.{true, false}
 use mathlib.Core.Path.{◌≡◌}
 use lib.Dec.{eqb}
 use borrow.Author.Tests.{eq-eqb, ne_eqb}
-use borrow.Author.Rules.{rules}
 use Rattle.limits.specs.Limits.{null_address}
 use Rattle.shared_arena_hashmap.specs.Probe.{seen_at}
 use Rattle.shared_arena_hashmap.specs.Buckets.{address_at, hash_at}

@@ -3,8 +3,6 @@
 use mathlib.Core.Bool.{Bool, true, false, cond}
 use mathlib.Core.Path.{◌≡◌, sym, ◌∙◌}
 use native.Mathlib.Omega.{arith}
-use borrow.Author.Tests.{not-true, not-false}
-use borrow.Author.Rules.{rules}
 use Rattle.records.specs.Record.{good_record}
 use Rattle.shared_arena_hashmap.specs.Probe.{seen_record}
 use Rattle.shared_arena_hashmap.specs.declared.Seen.TheVariants.{Same, Other}

@@ -1,10 +1,7 @@
 -- The mask is the remainder. Assumes nothing.
-use Prim.Native.Nat.{◌+◌, ◌<◌}
-use mathlib.Core.Path.{◌≡◌}
+use Prim.Native.Nat.{◌+◌}
 use native.Mathlib.Nat.{mod-lt}
-use native.Mathlib.Omega.{arith}
 use Rattle.shared_arena_hashmap.proofs.Laws.{power_facts, masked}
-use borrow.Author.Rules.{rules}
 use Rattle.shared_arena_hashmap.proofs.start_bucket.Goals as goal
 
 pub overflow_sub-result : goal.overflow_sub-result

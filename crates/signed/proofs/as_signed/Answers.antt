@@ -1,5 +1,4 @@
 -- `signed::as_signed` meets its contract. Assumes nothing.
-use borrow.Author.Rules.{rules}
 use mathlib.Core.Path.{sym, ◌∙◌}
 use native.Mathlib.Omega.{arith}
 use Rattle.signed.proofs.Laws.{signed_low, signed_high}

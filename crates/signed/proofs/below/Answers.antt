@@ -1,8 +1,5 @@
 -- `signed::below` meets its contract. Assumes nothing.
-use Prim.Native.Nat.{ℕ}
-use mathlib.Core.Path.{◌≡◌, sym, ap, ◌∙◌}
 use native.Mathlib.Omega.{arith}
-use lib.IntN.{negsuc}
 use Rattle.signed.proofs.Steps.{Below, below_zero, fits-one-more, fits-turned, is_turned}
 use Rattle.signed.proofs.below.Goals as goal
 use Rattle.signed.proofs.below.Goals.{Start}

@@ -1,5 +1,4 @@
 -- `signed::decode` meets its contract. Assumes nothing.
-use borrow.Author.Rules.{rules}
 use mathlib.Core.Path.{sym, ◌∙◌}
 use native.Mathlib.Omega.{arith}
 use Rattle.signed.proofs.Laws.{unstored_even, unstored_odd}

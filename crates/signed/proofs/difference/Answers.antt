@@ -1,5 +1,4 @@
 -- `signed::difference` meets its contract. Assumes nothing.
-use borrow.Author.Rules.{rules}
 use Prim.Native.Nat.{ℕ, ◌-◌}
 use mathlib.Core.Path.{◌≡◌, ap, ◌∙◌}
 use lib.IntN.{◌-ℤ◌}

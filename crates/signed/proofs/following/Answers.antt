@@ -1,6 +1,4 @@
 -- `signed::following` meets its contract. Assumes nothing.
-use borrow.Author.Rules.{rules}
-use Prim.Native.Nat.{ℕ}
 use mathlib.Core.Path.{◌≡◌, sym, ap, ◌∙◌}
 use lib.IntN.{◌+ℤ◌}
 use mir.Facts.{to_z-of_z}

@@ -1,5 +1,4 @@
 -- `signed::negative` meets its contract. Assumes nothing.
-use borrow.Author.Rules.{rules}
 use Rattle.signed.proofs.Steps.{fits_minus, fits_last, is_last}
 use Rattle.signed.proofs.negative.Goals as goal
 

@@ -1,7 +1,6 @@
 -- The two bytes of the span, one by one. Assumes nothing.
 use mathlib.Core.Path.{sym, ap, ◌∙◌}
 use native.Mathlib.Omega.{arith}
-use borrow.Author.Rules.{rules}
 use Rattle.spans.proofs.Laws.{span_2}
 use Rattle.numbers.specs.LittleEndian.{le_number}
 use Rattle.spans.proofs.get_u16.Goals as goal

@@ -1,7 +1,6 @@
 -- The four bytes of the span, one by one. Assumes nothing.
 use mathlib.Core.Path.{sym, ap, ◌∙◌}
 use native.Mathlib.Omega.{arith}
-use borrow.Author.Rules.{rules}
 use Rattle.spans.proofs.Laws.{span_4}
 use Rattle.numbers.specs.LittleEndian.{le_number}
 use Rattle.spans.proofs.get_u32.Goals as goal

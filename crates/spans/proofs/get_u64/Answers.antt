@@ -1,7 +1,6 @@
 -- Two numbers of four bytes, one behind the other. Assumes nothing.
 use native.Mathlib.Omega.{arith}
 use Rattle.spans.proofs.Laws.{number_8}
-use borrow.Author.Rules.{rules}
 use Rattle.spans.proofs.get_u64.Goals as goal
 
 pub returns : goal.returns

@@ -1,7 +1,6 @@
 -- Two stores in a row are one write. Assumes nothing.
 use native.Mathlib.Numerals.{towards_suc}
 use native.Mathlib.Omega.{arith}
-use borrow.Author.Rules.{rules}
 use lib.ListN.{length-set}
 use Rattle.spans.proofs.Laws.{stores}
 use Rattle.numbers.proofs.Laws.{length_le}

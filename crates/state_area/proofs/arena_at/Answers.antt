@@ -1,5 +1,4 @@
 -- Each number from its place. Assumes nothing.
-use borrow.Author.Rules.{rules}
 use Rattle.state_area.proofs.arena_at.Goals as goal
 
 pub returns : goal.returns

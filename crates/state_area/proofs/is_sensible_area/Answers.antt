@@ -1,12 +1,9 @@
 -- Each test in turn, behind the area's length. Assumes nothing.
-use mathlib.Core.Path.{◌≡◌, sym, ◌∙◌}
+use mathlib.Core.Path.{◌∙◌}
 use mathlib.Core.Bool.{◌&&◌}
 use lib.Dec.{leb, eqb}
-use lib.ListN.{length}
 use borrow.Author.Tests.{le-leb, lt-leb}
-use Rattle.numbers.proofs.Tests.{left_false}
-use Rattle.state_area.specs.Area.{area_size, sensible_area}
-use borrow.Author.Rules.{rules}
+use Rattle.state_area.specs.Area.{sensible_area}
 use Rattle.state_area.proofs.is_sensible_area.Goals as goal
 
 pub returns-then-area-lt-AREA_SIZE : goal.returns-then-area-lt-AREA_SIZE

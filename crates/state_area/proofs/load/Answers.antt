@@ -1,7 +1,6 @@
 -- Each number from its place. Assumes nothing.
 use lib.Dec.{eqb}
 use Rattle.state_area.specs.Area.{state_at}
-use borrow.Author.Rules.{rules}
 use Rattle.state_area.proofs.load.Goals as goal
 
 pub returns : goal.returns

@@ -7,7 +7,6 @@ use Rattle.numbers.proofs.Laws.{length_le}
 use Rattle.spans.specs.Span.{overwrite}
 use Rattle.state_area.specs.Area.{four_bytes}
 use Rattle.state_area.proofs.Laws.{four_runs}
-use borrow.Author.Rules.{rules}
 use Rattle.state_area.proofs.put_four.Goals as goal
 
 pub returns : goal.returns

@@ -4,7 +4,6 @@ use mathlib.Core.List.{List}
 use Prim.Native.Nat.{ℕ}
 use Rattle.spans.specs.Span.{overwrite}
 use Rattle.state_area.proofs.Laws.{low_four}
-use borrow.Author.Rules.{rules}
 use Rattle.state_area.proofs.put_number.Goals as goal
 
 pub returns : goal.returns

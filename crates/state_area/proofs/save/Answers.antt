@@ -7,7 +7,6 @@ use native.Mathlib.Omega.{arith}
 use Rattle.spans.specs.Span.{overwrite}
 use Rattle.state_area.specs.Area.{area_mark, four_bytes, area_of}
 use Rattle.state_area.proofs.Laws.{four_runs, length-four}
-use borrow.Author.Rules.{rules}
 use Rattle.state_area.proofs.save.Goals as goal
 
 pub returns : goal.returns

@@ -1,14 +1,12 @@
 -- The refusals in their order, the guard of names among them, then the append that it lets through. Assumes nothing.
 use mathlib.Core.Bool.{true}
 use mathlib.Core.Path.{◌≡◌, refl, sym, subst, ◌∙◌}
-use borrow.Author.Rules.{rules}
-use borrow.Author.Tests.{not-true, not-false}
 use lib.ListN.{length}
 use Rattle.store_append.proofs.Fair.{fair-append}
 use Rattle.store_append.proofs.Cases.{append_2, append_3, append_13, append-met}
 use Rattle.store_look.proofs.Found.{looked_2, looked_3, looked-nameless, looked-walk}
 use Rattle.store_append.specs.Append.{Out}
-use Rattle.store_look.specs.Look.{Lent, lent, checked}
+use Rattle.store_look.specs.Look.{lent, checked}
 use Rattle.store_state.specs.Name.{name_kind}
 use Rattle.store_append.specs.Said.{said_appended}
 use Rattle.store_state.specs.declared.Name.TheVariants.{Proper}

@@ -1,6 +1,5 @@
 -- The two cases. Assumes nothing.
 use mathlib.Core.Path.{sym, ◌∙◌}
-use borrow.Author.Rules.{rules}
 use lib.ListN.{length}
 use Rattle.store_append.proofs.Cases.{met_lap, met_lap_4}
 use Rattle.store_append.proofs.Carried.{carried_lap}

@@ -1,13 +1,12 @@
 -- The case that the lookup met. Assumes nothing.
 use mathlib.Core.Path.{◌≡◌, sym, ap, subst, ◌∙◌}
-use borrow.Author.Rules.{rules}
 use lib.ListN.{length}
 use Rattle.store_append.proofs.Cases.{met_damaged, met-standing, met_empty}
 use Rattle.store_append.proofs.Carried.{carried_empty}
 use Rattle.store_look.proofs.Found.{walk-held}
 use Rattle.store_state.proofs.Guard.{kind-length}
-use Rattle.store_append.specs.Append.{Out, Looked, on_met}
-use Rattle.store_look.specs.Look.{Lent, lent}
+use Rattle.store_append.specs.Append.{Looked, on_met}
+use Rattle.store_look.specs.Look.{lent}
 use Rattle.shared_arena_hashmap.specs.declared.Met.TheVariants.{Empty, Damaged, Lap}
 use Rattle.store_state.specs.declared.Name.TheVariants.{Proper}
 use Rattle.shared_arena_hashmap.specs.declared.Met.{Met}

@@ -4,8 +4,6 @@ use mathlib.Core.Bool.{false}
 use mathlib.Core.Option.{none}
 use mathlib.Core.Path.{◌≡◌, refl, sym, ap, subst, ◌∙◌}
 use native.Mathlib.Omega.{arith}
-use borrow.Author.Rules.{rules}
-use borrow.Author.Tests.{not-true, not-false}
 use lib.ListN.{length}
 use Rattle.store_append.proofs.Cases.{new_5, new-room, new_6_told, new-at, new_7, plan_none}
 use Rattle.store_state.proofs.Whole.{Whole, whole_facts, buckets_few}

@@ -1,8 +1,7 @@
 -- The lookup, then what it met; its walk is told beside the answer. Assumes nothing.
 use mathlib.Core.Path.{◌≡◌, sym, ap, ◌∙◌}
-use borrow.Author.Rules.{rules}
 use Rattle.store_append.specs.Append.{Out, on_met}
-use Rattle.store_look.specs.Look.{Lent, lent, walk_of}
+use Rattle.store_look.specs.Look.{lent, walk_of}
 use Rattle.shared_arena_hashmap.specs.declared.Walk.{Walk}
 use Rattle.shared_arena_hashmap.specs.declared.Met.{Met}
 use Rattle.store_append.proofs.append_proper.Goals as goal

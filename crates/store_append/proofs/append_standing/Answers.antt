@@ -1,8 +1,6 @@
 -- The refusals in their order; nothing is written before the last. Assumes nothing.
 use mathlib.Core.Bool.{true}
 use mathlib.Core.Path.{◌≡◌, sym, ap, ◌∙◌}
-use borrow.Author.Rules.{rules}
-use borrow.Author.Tests.{not-true, not-false}
 use lib.ListN.{length}
 use Rattle.memory_arena.proofs.Laws.{sensible_facts}
 use Rattle.store_append.proofs.Cases.{standing_4, standing_4_tail, standing_on, standing_7, plan_none}

@@ -1,7 +1,6 @@
 -- The table stands in the lent words; the first empty bucket is known, or probed for. Assumes nothing.
 use Prim.Native.Nat.{ℕ, ◌+◌, ◌*◌, ◌%◌, ◌/◌, ◌≤◌}
 use mathlib.Core.Path.{◌≡◌, sym, ap, subst, ◌∙◌}
-use borrow.Author.Rules.{rules}
 use lib.ListN.{length}
 use Rattle.store_state.specs.State.{first_of}
 use Rattle.store_state.proofs.Whole.{first-in}

@@ -3,8 +3,6 @@ use Prim.Native.Nat.{ℕ, ◌+◌, ◌*◌, ◌/◌, ◌≤◌, ◌<◌}
 use mathlib.Core.Bool.{true}
 use mathlib.Core.Path.{◌≡◌, sym, ap, subst, ◌∙◌}
 use native.Mathlib.Omega.{arith}
-use borrow.Author.Rules.{rules}
-use borrow.Author.Tests.{not-true, not-false}
 use lib.ListN.{length}
 use Rattle.store_append.proofs.Cases.{stays_unsaturated, stays_crowded, does_grow, state-stays, state-grows}
 use Rattle.store_append.proofs.Cases.{table_stays, table-grows}

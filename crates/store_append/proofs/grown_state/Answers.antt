@@ -1,6 +1,5 @@
 -- Two fields change. Assumes nothing.
 use mathlib.Core.Bool.{not}
-use borrow.Author.Rules.{rules}
 use Rattle.store_append.proofs.grown_state.Goals as goal
 
 pub returns : goal.returns

@@ -1,7 +1,6 @@
 -- The grown length as it stands. Assumes nothing.
 use Prim.Native.Nat.{ℕ, ◌+◌, ◌/◌}
 use mathlib.Core.Path.{ap}
-use borrow.Author.Rules.{rules}
 use lib.Dec.{leb}
 use Rattle.store_append.proofs.has_room_to_grow.Goals as goal
 

@@ -1,7 +1,6 @@
 -- Both tests. Assumes nothing.
 use mathlib.Core.Bool.{not}
 use mathlib.Core.Path.{sym, ap, ◌∙◌}
-use borrow.Author.Rules.{rules}
 use Rattle.store_append.proofs.is_crowded.Goals as goal
 
 pub returns-then-is_saturated : goal.returns-then-is_saturated

@@ -2,7 +2,6 @@
 use Prim.Native.Nat.{ℕ}
 use mathlib.Core.Option.{some}
 use mathlib.Core.Path.{refl, ap, ◌∙◌}
-use borrow.Author.Rules.{rules}
 use lib.ListN.{length}
 use Rattle.store_append.proofs.Cases.{standing_done}
 use Rattle.store_state.proofs.Whole.{whole_facts}

@@ -2,7 +2,6 @@
 use Prim.Native.Nat.{ℕ, ◌+◌, ◌*◌, ◌≤◌}
 use mathlib.Core.List.{List}
 use mathlib.Core.Path.{refl, sym, ap, ap₂, subst, ◌∙◌}
-use borrow.Author.Rules.{rules}
 use lib.ListN.{length}
 use Rattle.store_create.proofs.Creation.{creatable-room, create_made, create_barred}
 use Rattle.store_create.specs.Create.{out, fresh_state}

@@ -2,13 +2,8 @@
 use Prim.Native.Nat.{◌/◌}
 use mathlib.Core.Bool.{true, ◌&&◌}
 use mathlib.Core.Path.{◌≡◌, sym, ◌∙◌}
-use borrow.Author.Rules.{rules}
-use borrow.Author.Tests.{not-true, not-false}
 use lib.Dec.{leb, ltb}
-use Rattle.limits.specs.Limits.{page_taken, arena_limit_for}
-use Rattle.memory_arena.specs.Pages.{lendable}
-use Rattle.shared_arena_hashmap.specs.Power.{rounded_down}
-use Rattle.store_state.specs.State.{lent_buckets, words_taken}
+use Rattle.limits.specs.Limits.{page_taken}
 use Rattle.store_create.specs.Create.{creatable}
 use Rattle.store_create.proofs.is_creatable.Goals as goal
 use Rattle.store_create.proofs.is_creatable.Goals.{Else-not-is_page_size}

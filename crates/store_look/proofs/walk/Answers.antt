@@ -1,10 +1,9 @@
 -- The whole-state check gives what the lookup asks. Assumes nothing.
 use native.Mathlib.Omega.{arith}
-use borrow.Author.Rules.{rules}
 use lib.ListN.{length}
 use Rattle.store_state.proofs.Whole.{Whole, whole_facts, find_asks}
 use Rattle.store_look.proofs.Walked.{walk-found}
-use Rattle.store_look.specs.Look.{Lent, lent}
+use Rattle.store_look.specs.Look.{lent}
 use Rattle.store_look.proofs.walk.Goals as goal
 use Rattle.store_look.proofs.walk.Goals.{Start}
 

@@ -1,6 +1,5 @@
 -- The whole-state check gives what the lookup asks. Assumes nothing.
 use native.Mathlib.Omega.{arith}
-use borrow.Author.Rules.{rules}
 use lib.ListN.{length}
 use Rattle.store_state.proofs.Whole.{Whole, whole_facts, find_asks}
 use Rattle.store_look.proofs.Walked.{walk-found}

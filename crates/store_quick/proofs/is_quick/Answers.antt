@@ -1,13 +1,12 @@
 -- Each test in turn. Assumes nothing.
-use Prim.Native.Nat.{ℕ, ◌≤◌}
-use mathlib.Core.Path.{◌≡◌, sym, ap, subst, ◌∙◌}
+use Prim.Native.Nat.{◌≤◌}
+use mathlib.Core.Path.{sym, ap, subst, ◌∙◌}
 use mathlib.Core.Bool.{false≢true}
 use native.Mathlib.Omega.{arith}
-use borrow.Author.Tests.{not-true, not-false}
+use borrow.Author.Tests.{not-true}
 use Rattle.expull_header.specs.declared.Header.{Header}
 use Rattle.expull_append.specs.Append.{good_tail}
 use Rattle.records.proofs.Laws.{head-found}
-use borrow.Author.Rules.{rules}
 use Rattle.store_quick.proofs.is_quick.Goals as goal
 
 pub returns-in_default : goal.returns-in_default

@@ -5,7 +5,6 @@ use Rattle.store_look.specs.Look.{lent}
 use Rattle.store_state.proofs.Whole.{Whole, whole_facts}
 use Rattle.store_append.proofs.Growth.{growable}
 use Rattle.store_quick.proofs.Shortcut.{quick_done}
-use borrow.Author.Rules.{rules}
 use Rattle.store_quick.proofs.quick_standing.Goals as goal
 use Rattle.store_quick.proofs.quick_standing.Goals.{Start}
 

@@ -2,10 +2,8 @@
 use mathlib.Core.Bool.{true}
 use mathlib.Core.Path.{◌≡◌, refl, sym, ◌∙◌}
 use native.Mathlib.Omega.{arith}
-use borrow.Author.Rules.{rules}
-use borrow.Author.Tests.{not-true, not-false}
 use lib.ListN.{length}
-use Rattle.store_look.specs.Look.{Lent, lent, checked}
+use Rattle.store_look.specs.Look.{lent, checked}
 use Rattle.store_append.proofs.Cases.{append_2, append_3, append_13}
 use Rattle.store_state.proofs.Guard.{kind-long, kind-nameless, kind_proper}
 use Rattle.store_quick.proofs.try_append.Goals as goal

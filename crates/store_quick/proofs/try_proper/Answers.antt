@@ -14,7 +14,6 @@ use Rattle.store_state.proofs.Whole.{Whole, whole_facts, find_asks}
 use Rattle.store_look.proofs.Walked.{walk-found}
 use Rattle.store_look.proofs.Found.{walk-held}
 use Rattle.store_append.proofs.Cases.{append-met, met-standing}
-use borrow.Author.Rules.{rules}
 use Rattle.store_quick.proofs.try_proper.Goals as goal
 use Rattle.store_quick.proofs.try_proper.Goals.{After-find-w, After-slice_known-4-1, In-Standing, Start}
 

@@ -9,7 +9,6 @@ use Rattle.expull_header.specs.Header.{header_at, header_bytes}
 use Rattle.expull_append.specs.Append.{Writing, writing, filled}
 use Rattle.records.specs.Record.{header_of}
 use Rattle.store_quick.proofs.Shortcut.{quick-fits}
-use borrow.Author.Rules.{rules}
 use Rattle.store_quick.proofs.write_quick.Goals as goal
 use Rattle.store_quick.proofs.write_quick.Goals.{After-get_header-h}
 

@@ -2,7 +2,6 @@
 use Prim.Native.Nat.{◌/◌}
 use mathlib.Core.Bool.{Bool, ◌&&◌}
 use mathlib.Core.Path.{ap}
-use borrow.Author.Rules.{rules}
 use lib.Dec.{leb}
 use Rattle.store_state.proofs.does_table_fit.Goals as goal
 

@@ -1,5 +1,4 @@
 -- The two ends. Assumes nothing.
-use borrow.Author.Rules.{rules}
 use Rattle.store_state.proofs.first_bucket.Goals as goal
 
 pub returns-then-back : goal.returns-then-back

@@ -1,7 +1,6 @@
 -- The six parts of the check, one by one. Assumes nothing.
 use mathlib.Core.Bool.{◌&&◌}
 use lib.Dec.{eqb}
-use borrow.Author.Rules.{rules}
 use Rattle.store_state.specs.State.{whole_state}
 use Rattle.store_state.proofs.is_whole_state.Goals as goal
 

@@ -1,8 +1,7 @@
 -- The two tests, in their order. Assumes nothing.
-use Prim.Native.Nat.{ℕ, ◌≤◌, ◌<◌}
+use Prim.Native.Nat.{ℕ, ◌<◌}
 use mathlib.Core.Path.{sym, subst}
 use native.Mathlib.Omega.{arith}
-use borrow.Author.Rules.{rules}
 use Rattle.store_state.proofs.Guard.{kind-long, kind-nameless, kind_proper}
 use Rattle.store_state.proofs.name_kind.Goals as goal
 

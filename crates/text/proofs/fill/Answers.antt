@@ -1,9 +1,6 @@
 -- The invariant: the area keeps its length. The measure is what is left of it. Assumes nothing.
 use native.Mathlib.Omega.{arith}
-use lib.ListN.{length, length-set}
-use mathlib.Core.Path.{◌≡◌}
-use Prim.Native.Nat.{◌≤◌, ◌-◌}
-use borrow.Author.Rules.{rules}
+use lib.ListN.{length-set}
 use Rattle.text.proofs.fill.Goals as goal
 
 pub loop-i-smaller : goal.loop-i-smaller

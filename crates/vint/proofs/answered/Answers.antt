@@ -3,7 +3,6 @@
 use Prim.Native.Nat.{ℕ}
 use mathlib.Core.Path.{sym, ap, ◌∙◌}
 use native.Mathlib.Omega.{arith}
-use borrow.Author.Rules.{rules}
 use Rattle.vint.specs.declared.Unvint.TheVariants.{Number}
 use Rattle.vint.proofs.Forms.{unit_most, answers_12, answers_number, answer_fits}
 use Rattle.vint.proofs.answered.Goals as goal

@@ -2,7 +2,6 @@
 use Prim.Native.Nat.{◌*◌, ◌^◌, ◌≤◌}
 use native.Mathlib.Nat.{mul-le-mul}
 use native.Mathlib.Omega.{arith}
-use borrow.Author.Rules.{rules}
 use Rattle.vint.proofs.plus.Goals as goal
 use Rattle.vint.proofs.plus.Goals.{Start}
 

@@ -8,7 +8,7 @@ use native.Mathlib.Omega.{arith}
 use lib.ListN.{length, get_or}
 use Rattle.limits.specs.Limits.{vint_limit}
 use Rattle.vint.specs.Vint.{ended, unended, answer_of}
-use Rattle.vint.proofs.Laws.{goes_on, stops, Reading, reading_starts, unit_most, reading-on, last_byte}
+use Rattle.vint.proofs.Laws.{goes_on, stops, reading_starts, unit_most, reading-on, last_byte}
 use Rattle.vint.proofs.Laws.{reading_last, reading_stops, answers}
 use Rattle.vint.proofs.read_u32_vint.Goals as goal
 use Rattle.vint.proofs.read_u32_vint.Goals.{In-loop-at}

@@ -1,15 +1,9 @@
 -- `vint::read_u32_vint` meets its contract. The loop's invariant, `Reading`: what is taken in all is the sum so far
 -- with the unit times what is taken from here, and the unit is 128 to the bytes so far. The measure is how many more
 -- may be taken. Assumes nothing.
-use Prim.Native.Nat.{ℕ, ◌+◌, ◌-◌, ◌*◌, ◌^◌, ◌≤◌, ◌<◌}
-use mathlib.Core.Path.{refl, ap, ◌∙◌}
-use native.Mathlib.Numerals.{add-one}
-use native.Mathlib.Omega.{arith}
-use lib.ListN.{length, get_or}
+use Prim.Native.Nat.{◌-◌}
 use Rattle.limits.specs.Limits.{vint_limit}
-use Rattle.vint.specs.Vint.{ended, unended, answer_of}
-use Rattle.vint.proofs.Laws.{goes_on, stops, Reading, reading_starts, unit_most, reading-on, last_byte}
-use Rattle.vint.proofs.Laws.{reading_last, reading_stops, answers}
+use Rattle.vint.proofs.Laws.{Reading}
 use Rattle.vint.proofs.read_u32_vint.Given as goal
 
 abbrev pub invariant-loop-at : goal.invariant-loop-at

@@ -3,9 +3,7 @@
 use mathlib.Core.Path.{refl, ◌∙◌}
 use native.Mathlib.Numerals.{add-one}
 use native.Mathlib.Omega.{arith}
-use borrow.Author.Rules.{rules}
-use Rattle.limits.specs.Limits.{vint_limit}
-use Rattle.vint.proofs.Laws.{Writing, writing-on, written, written_length}
+use Rattle.vint.proofs.Laws.{writing-on, written, written_length}
 use Rattle.vint.proofs.serialize_vint_u32.Goals as goal
 
 pub loop-rest-init : goal.loop-rest-init

@@ -1,11 +1,7 @@
 -- `vint::serialize_vint_u32` meets its contract. The loop's invariant, `Writing`: what is written, then the vint of the
 -- rest, is the number's vint; the rest fits the bytes left, which are zeros. The measure is the rest. Assumes nothing.
-use mathlib.Core.Path.{refl, ◌∙◌}
-use native.Mathlib.Numerals.{add-one}
-use native.Mathlib.Omega.{arith}
-use borrow.Author.Rules.{rules}
 use Rattle.limits.specs.Limits.{vint_limit}
-use Rattle.vint.proofs.Laws.{Writing, writing-on, written, written_length}
+use Rattle.vint.proofs.Laws.{Writing}
 use Rattle.vint.proofs.serialize_vint_u32.Given as goal
 
 abbrev pub invariant-loop-rest : goal.invariant-loop-rest

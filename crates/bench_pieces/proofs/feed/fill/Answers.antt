@@ -1,9 +1,6 @@
 -- The invariant: the places stay as many. The measure is what is left of them. Assumes nothing.
 use native.Mathlib.Omega.{arith}
-use lib.ListN.{length, length-set}
-use mathlib.Core.Path.{◌≡◌}
-use Prim.Native.Nat.{◌≤◌, ◌-◌}
-use borrow.Author.Rules.{rules}
+use lib.ListN.{length-set}
 use Rattle.bench_pieces.proofs.feed.fill.Goals as goal
 
 pub loop-i-smaller : goal.loop-i-smaller

@@ -1,9 +1,7 @@
 -- The invariant: the places stay as many. The measure is what is left of them. Assumes nothing.
-use native.Mathlib.Omega.{arith}
-use lib.ListN.{length, length-set}
+use lib.ListN.{length}
 use mathlib.Core.Path.{◌≡◌}
 use Prim.Native.Nat.{◌≤◌, ◌-◌}
-use borrow.Author.Rules.{rules}
 use Rattle.bench_pieces.proofs.feed.fill.Given as goal
 
 abbrev pub invariant-loop-i : goal.invariant-loop-i

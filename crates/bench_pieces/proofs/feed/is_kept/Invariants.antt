@@ -1,7 +1,6 @@
 -- The measure is what is left of the places. Assumes nothing.
 use lib.ListN.{length}
 use Prim.Native.Nat.{◌≤◌, ◌-◌}
-use borrow.Author.Rules.{rules}
 use Rattle.bench_pieces.proofs.feed.is_kept.Given as goal
 
 abbrev pub invariant-loop-i : goal.invariant-loop-i

@@ -6,7 +6,6 @@ use mathlib.Core.List.{List}
 use mir.Facts.{to_z-of_z}
 use Rattle.store_look.specs.Look.{Lent}
 use Rattle.c_above.specs.Above.{drift_in}
-use borrow.Author.Rules.{rules}
 use Rattle.c_exports.proofs.above.nuvrisel_drift.Goals as goal
 
 -- equal readings are one call

@@ -1,7 +1,6 @@
 -- `flat_store::look::find` meets its contract. Assumes nothing.
 use mathlib.Core.Path.{◌≡◌, sym, ◌∙◌}
 use native.Mathlib.Omega.{arith}
-use borrow.Author.Rules.{rules}
 use Rattle.spans.specs.Span.{read_span}
 use Rattle.flat_walk.specs.declared.Walked.{Walked}
 use Rattle.flat_walk.specs.declared.Walked.TheVariants.{Through, Broken}

@@ -1,5 +1,4 @@
 -- `flat_store::look::length` meets its contract. Assumes nothing.
-use borrow.Author.Rules.{rules}
 use Rattle.flat_store.proofs.Finds.{length_from_lem}
 use Rattle.flat_store.proofs.look.length.Goals as goal
 

@@ -1,6 +1,5 @@
 -- `flat_store::look::looked_up` meets its contract. Assumes nothing.
 use mathlib.Core.Path.{sym, ap}
-use borrow.Author.Rules.{rules}
 use Rattle.flat_store.specs.Found.{lookup_from}
 use Rattle.flat_store.proofs.look.looked_up.Goals as goal
 

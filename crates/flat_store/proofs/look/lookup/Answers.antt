@@ -1,5 +1,4 @@
 -- `flat_store::look::lookup` meets its contract. Assumes nothing.
-use borrow.Author.Rules.{rules}
 use Rattle.flat_store.proofs.Finds.{lookup_from_lem}
 use Rattle.flat_store.proofs.look.lookup.Goals as goal
 

@@ -1,6 +1,5 @@
 -- `flat_store::look::measured` meets its contract. Assumes nothing.
 use mathlib.Core.Path.{sym, ap}
-use borrow.Author.Rules.{rules}
 use Rattle.flat_store.specs.Found.{length_from}
 use Rattle.flat_store.proofs.look.measured.Goals as goal
 

@@ -1,6 +1,5 @@
 -- `flat_store::look::read` meets its contract. Assumes nothing.
 use mathlib.Core.Path.{sym, ◌∙◌}
-use borrow.Author.Rules.{rules}
 use Rattle.spans.specs.Span.{read_span}
 use Rattle.flat_store.proofs.Finds.{Sized, sized, read_not, read_8, read_fits, read_done}
 use borrow.Enum.Refused.{opened}

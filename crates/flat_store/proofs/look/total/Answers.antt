@@ -1,5 +1,4 @@
 -- `flat_store::look::total` meets its contract. Assumes nothing.
-use borrow.Author.Rules.{rules}
 use Rattle.flat_store.proofs.look.total.Goals as goal
 
 pub returns-then-t : goal.returns-then-t

@@ -3,8 +3,6 @@ use Prim.Native.Nat.{◌+◌, ◌≤◌}
 use mathlib.Core.Path.{refl, sym, ap, ◌∙◌}
 use native.Mathlib.Omega.{arith}
 use lib.ListN.{length}
-use borrow.Author.Rules.{rules}
-use borrow.Author.Tests.{not-true, not-false}
 use Rattle.entries.specs.Form.{byte_limit, entry_size}
 use Rattle.flat_store.specs.declared.Appended.TheVariants.{Accepted}
 use Rattle.flat_store.specs.Calls.{out}

@@ -1,6 +1,5 @@
 -- `flat_store::write::has_room` meets its contract. Assumes nothing.
 use native.Mathlib.Omega.{arith}
-use borrow.Author.Rules.{rules}
 use Rattle.flat_store.proofs.Calls.{room-bytes, room_none, room_some}
 use Rattle.flat_store.proofs.write.has_room.Goals as goal
 

@@ -1,7 +1,6 @@
 -- `report_read::check::any_line` meets its contract. Assumes nothing.
 use mathlib.Core.Path.{sym, ◌∙◌}
 use Rattle.report_read.proofs.Checking.{kind_0, kind_1, kind_2, kind_3, kind_4, kind_5, kind_none}
-use borrow.Author.Rules.{rules}
 use Rattle.report_read.proofs.check.any_line.Goals as goal
 
 pub returns-then-expected-eq0 : goal.returns-then-expected-eq0

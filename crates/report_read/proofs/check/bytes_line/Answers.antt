@@ -1,10 +1,8 @@
 -- `report_read::check::bytes_line` meets its contract. Assumes nothing.
 use mathlib.Core.Path.{sym, ◌∙◌}
 use native.Mathlib.Omega.{arith}
-use borrow.Author.Tests.{not-true, not-false}
 use Rattle.report_text.specs.Text.{bytes_word}
 use Rattle.report_read.proofs.LineKinds.{bytes_bad, bytes_unlike, bytes_good, bytes_most}
-use borrow.Author.Rules.{rules}
 use Rattle.report_read.proofs.check.bytes_line.Goals as goal
 
 pub returns-in_default : goal.returns-in_default

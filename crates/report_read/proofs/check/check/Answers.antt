@@ -1,5 +1,4 @@
 -- `report_read::check::check` meets its contract. Assumes nothing.
-use borrow.Author.Rules.{rules}
 use Rattle.report_read.proofs.Checking.{told}
 use Rattle.report_read.proofs.check.check.Goals as goal
 

@@ -1,13 +1,10 @@
 -- `report_read::check::check_noting` meets its contract. The invariant, `Noting`: what the whole text reads as is what
 -- the rest reads as behind the progress, and every name so far is noted.
 -- Assumes nothing.
-use Prim.Native.Nat.{◌-◌}
 use mathlib.Core.Path.{sym, ◌∙◌}
 use native.Mathlib.Omega.{arith}
-use lib.ListN.{length, drop, length-drop}
-use borrow.Author.Rules.{rules}
 use Rattle.report_read.proofs.Noting.{notes_size}
-use Rattle.report_read.proofs.Checking.{Noting, noting_starts, noting_vouch, noting-on, checking-rest}
+use Rattle.report_read.proofs.Checking.{noting_starts, noting_vouch, noting-on, checking-rest}
 use Rattle.report_read.proofs.Checking.{checking_bad, line-room}
 use Rattle.report_read.proofs.check.check_noting.Goals as goal
 

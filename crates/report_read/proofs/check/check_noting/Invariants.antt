@@ -2,13 +2,8 @@
 -- the rest reads as behind the progress, and every name so far is noted.
 -- Assumes nothing.
 use Prim.Native.Nat.{◌-◌}
-use mathlib.Core.Path.{sym, ◌∙◌}
-use native.Mathlib.Omega.{arith}
-use lib.ListN.{length, drop, length-drop}
-use borrow.Author.Rules.{rules}
-use Rattle.report_read.proofs.Noting.{notes_size}
-use Rattle.report_read.proofs.Checking.{Noting, noting_starts, noting_vouch, noting-on, checking-rest}
-use Rattle.report_read.proofs.Checking.{checking_bad, line-room}
+use lib.ListN.{length}
+use Rattle.report_read.proofs.Checking.{Noting}
 use Rattle.report_read.proofs.check.check_noting.Given as goal
 
 abbrev pub invariant-loop-p : goal.invariant-loop-p

@@ -1,7 +1,5 @@
 -- `report_read::check::end_line` meets its contract. Assumes nothing.
-use mathlib.Core.Path.{sym, ◌∙◌}
-use native.Mathlib.Omega.{arith}
-use borrow.Author.Tests.{not-true, not-false}
+use mathlib.Core.Path.{sym}
 use Rattle.report_read.proofs.LineKinds.{end-good, end_bad}
 use Rattle.report_read.proofs.check.end_line.Goals as goal
 

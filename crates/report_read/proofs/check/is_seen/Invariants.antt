@@ -1,13 +1,10 @@
 -- `report_read::check::is_seen` meets its contract. The invariant: the line begins one of the lanes if it begins one of
 -- those left from here on. Assumes nothing.
 use Prim.Native.Nat.{◌≤◌}
-use mathlib.Core.Path.{◌≡◌, sym, ap, ◌∙◌}
-use native.Mathlib.Omega.{arith}
+use mathlib.Core.Path.{◌≡◌}
 use lib.ListN.{length}
-use borrow.Author.Rules.{rules}
 use Rattle.report_read.specs.Lines.{first_lane}
 use Rattle.report_read.specs.Counted.{seen_among}
-use Rattle.report_read.proofs.Seen.{seen_none, seen_here, seen-on}
 use Rattle.report_read.proofs.check.is_seen.Given as goal
 
 abbrev pub invariant-loop-left : goal.invariant-loop-left

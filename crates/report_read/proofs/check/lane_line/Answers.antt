@@ -1,7 +1,6 @@
 -- `report_read::check::lane_line` meets its contract. Assumes nothing.
 use mathlib.Core.Path.{sym, ◌∙◌}
 use Rattle.report_read.proofs.LineKinds.{lane-end, lane-name}
-use borrow.Author.Rules.{rules}
 use Rattle.report_read.proofs.check.lane_line.Goals as goal
 
 pub returns-then-fast_short_slice_compare : goal.returns-then-fast_short_slice_compare

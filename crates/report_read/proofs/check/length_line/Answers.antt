@@ -1,9 +1,6 @@
 -- `report_read::check::length_line` meets its contract. Assumes nothing.
 use mathlib.Core.Path.{sym, ◌∙◌}
-use native.Mathlib.Omega.{arith}
-use borrow.Author.Tests.{not-true, not-false}
 use Rattle.report_read.proofs.LineKinds.{length-good, length_bad}
-use borrow.Author.Rules.{rules}
 use Rattle.report_read.proofs.check.length_line.Goals as goal
 
 pub returns-in_default : goal.returns-in_default

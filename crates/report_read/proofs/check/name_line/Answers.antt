@@ -3,7 +3,6 @@ use mathlib.Core.Path.{sym, ◌∙◌}
 use native.Mathlib.Omega.{arith}
 use Rattle.report_read.proofs.LineKinds.{name_bad, name-long, name-seen, name-good}
 use Rattle.report_read.proofs.Noting.{vouched-name}
-use borrow.Author.Rules.{rules}
 use Rattle.report_read.proofs.check.name_line.Goals as goal
 
 pub returns-in_default : goal.returns-in_default

@@ -1,6 +1,5 @@
 -- `report_read::check::note` meets its contract. Assumes nothing.
 use native.Mathlib.Omega.{arith}
-use borrow.Author.Rules.{rules}
 use Rattle.report_read.proofs.Noting.{note_elsewhere, note_here}
 use Rattle.report_read.proofs.check.note.Goals as goal
 

@@ -2,7 +2,6 @@
 use Prim.Native.Nat.{◌+◌}
 use mathlib.Core.Path.{sym}
 use Rattle.report_read.proofs.Checking.{end-good, end_bad}
-use borrow.Author.Rules.{rules}
 use Rattle.report_read.proofs.check.rest.Goals as goal
 
 pub returns-then-done : goal.returns-then-done

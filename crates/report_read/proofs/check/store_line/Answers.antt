@@ -1,9 +1,6 @@
 -- `report_read::check::store_line` meets its contract. Assumes nothing.
 use mathlib.Core.Path.{sym, ◌∙◌}
-use native.Mathlib.Omega.{arith}
-use borrow.Author.Tests.{not-true, not-false}
 use Rattle.report_read.proofs.LineKinds.{store-good, store_bad}
-use borrow.Author.Rules.{rules}
 use Rattle.report_read.proofs.check.store_line.Goals as goal
 
 pub returns-then-not-fast_short_slice_compare : goal.returns-then-not-fast_short_slice_compare

@@ -1,9 +1,6 @@
 -- `report_read::check::terms_line` meets its contract. Assumes nothing.
 use mathlib.Core.Path.{sym, ◌∙◌}
-use native.Mathlib.Omega.{arith}
-use borrow.Author.Tests.{not-true, not-false}
 use Rattle.report_read.proofs.LineKinds.{terms_good, terms_bad}
-use borrow.Author.Rules.{rules}
 use Rattle.report_read.proofs.check.terms_line.Goals as goal
 
 pub returns-in_default : goal.returns-in_default

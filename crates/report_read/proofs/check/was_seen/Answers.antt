@@ -1,7 +1,5 @@
 -- `report_read::check::was_seen` meets its contract. Assumes nothing.
 use mathlib.Core.Path.{sym}
-use borrow.Author.Rules.{rules}
-use borrow.Author.Tests.{not-true}
 use Rattle.report_read.proofs.check.was_seen.Goals as goal
 
 pub returns-then-not-maybe : goal.returns-then-not-maybe

@@ -1,7 +1,6 @@
 -- `report_read::pick::pick_lane` meets its contract. Assumes nothing.
 use mathlib.Core.Path.{sym, ◌∙◌}
 use native.Mathlib.Omega.{arith}
-use borrow.Author.Rules.{rules}
 use Rattle.report_read.proofs.Picking.{told, pick_parts, pick_found, pick_none, pick_unread}
 use Rattle.report_read.proofs.pick.pick_lane.Goals as goal
 

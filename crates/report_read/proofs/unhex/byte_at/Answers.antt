@@ -2,7 +2,6 @@
 use Prim.Native.Nat.{◌+◌, ◌*◌}
 use native.Mathlib.Omega.{arith}
 use Rattle.report_read.proofs.Unhexing.{hex-at}
-use borrow.Author.Rules.{rules}
 use Rattle.report_read.proofs.unhex.byte_at.Goals as goal
 
 pub hex_value-high-requires : goal.hex_value-high-requires

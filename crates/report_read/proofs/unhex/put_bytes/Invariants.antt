@@ -1,8 +1,7 @@
 -- `report_read::unhex::put_bytes` meets its contract. The invariant, `Unhexing`: i bytes are written. Assumes nothing.
 use Prim.Native.Nat.{◌-◌, ◌/◌}
-use native.Mathlib.Omega.{arith}
 use lib.ListN.{length}
-use Rattle.report_read.proofs.Unhexing.{Unhexing, unhexing_starts, unhexing-length, unhexing-on, unhexing-ends}
+use Rattle.report_read.proofs.Unhexing.{Unhexing}
 use Rattle.report_read.proofs.unhex.put_bytes.Given as goal
 
 abbrev pub invariant-loop-i : goal.invariant-loop-i

@@ -1,9 +1,7 @@
 -- `report_read::unhex::unhex` meets its contract. Assumes nothing.
 use mathlib.Core.Path.{refl, sym, ◌∙◌}
 use native.Mathlib.Omega.{arith}
-use borrow.Author.Tests.{not-true, not-false}
 use Rattle.report_read.proofs.Unhexing.{told, unhex_none, unhex_short, unhex_done}
-use borrow.Author.Rules.{rules}
 use Rattle.report_read.proofs.unhex.unhex.Goals as goal
 
 pub returns-then-not-is_hex_text : goal.returns-then-not-is_hex_text

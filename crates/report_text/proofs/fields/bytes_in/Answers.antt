@@ -1,13 +1,10 @@
 -- `report_text::fields::bytes_in` meets its contract. Assumes nothing.
-use Prim.Native.Nat.{◌-◌}
 use mathlib.Core.Path.{sym, ap, ◌∙◌, ◌≡◌}
 use native.Mathlib.Omega.{arith}
-use borrow.Author.Tests.{not-true, not-false}
 use mathlib.Core.Bool.{true, false}
 use lib.ListN.{length, drop, length-drop}
 use Rattle.report_text.specs.Values.{hex_text, hexed_of}
 use Rattle.report_text.proofs.Words.{begins_long, bytes-in_is, bytes-in_not, hexed_is, rest_part}
-use borrow.Author.Rules.{rules}
 use Rattle.report_text.proofs.fields.bytes_in.Goals as goal
 
 pub returns-then-not-has_word : goal.returns-then-not-has_word

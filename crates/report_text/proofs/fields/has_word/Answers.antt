@@ -1,10 +1,7 @@
 -- `report_text::fields::has_word` meets its contract. Assumes nothing.
-use Prim.Native.Nat.{◌-◌}
-use mathlib.Core.Path.{sym, ap, ◌∙◌}
+use mathlib.Core.Path.{sym, ◌∙◌}
 use native.Mathlib.Omega.{arith}
-use borrow.Author.Tests.{not-true, not-false}
 use Rattle.report_text.proofs.Words.{begins_short, begins_test}
-use borrow.Author.Rules.{rules}
 use Rattle.report_text.proofs.fields.has_word.Goals as goal
 
 pub returns-then-line-n : goal.returns-then-line-n

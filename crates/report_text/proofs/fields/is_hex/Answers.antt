@@ -1,5 +1,4 @@
 -- `report_text::fields::is_hex` meets its contract. Assumes nothing.
-use borrow.Author.Rules.{rules}
 use Rattle.report_text.proofs.fields.is_hex.Goals as goal
 
 pub returns : goal.returns

@@ -1,13 +1,8 @@
 -- `report_text::fields::is_hex_text` meets its contract. The invariant: the test of the whole is the test from `i` on.
 -- Assumes nothing.
-use Prim.Native.Nat.{◌-◌, ◌≤◌}
-use mathlib.Core.Path.{◌≡◌, refl, sym, ◌∙◌}
+use mathlib.Core.Path.{sym, ◌∙◌}
 use native.Mathlib.Numerals.{add-one}
 use native.Mathlib.Omega.{arith}
-use lib.ListN.{length, drop}
-use borrow.Author.Rules.{rules}
-use borrow.Author.Tests.{not-true, not-false}
-use Rattle.report_text.specs.Values.{all_hex, hex_text}
 use Rattle.report_text.proofs.Laws.{hex-turn, hex-end, hex_even, hex_odd}
 use Rattle.report_text.proofs.fields.is_hex_text.Goals as goal
 

@@ -1,14 +1,9 @@
 -- `report_text::fields::is_hex_text` meets its contract. The invariant: the test of the whole is the test from `i` on.
 -- Assumes nothing.
 use Prim.Native.Nat.{◌-◌, ◌≤◌}
-use mathlib.Core.Path.{◌≡◌, refl, sym, ◌∙◌}
-use native.Mathlib.Numerals.{add-one}
-use native.Mathlib.Omega.{arith}
+use mathlib.Core.Path.{◌≡◌}
 use lib.ListN.{length, drop}
-use borrow.Author.Rules.{rules}
-use borrow.Author.Tests.{not-true, not-false}
 use Rattle.report_text.specs.Values.{all_hex, hex_text}
-use Rattle.report_text.proofs.Laws.{hex-turn, hex-end, hex_even, hex_odd}
 use Rattle.report_text.proofs.fields.is_hex_text.Given as goal
 
 abbrev pub invariant-loop-i : goal.invariant-loop-i

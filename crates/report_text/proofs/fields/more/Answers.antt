@@ -1,6 +1,5 @@
 -- `report_text::fields::more` meets its contract. Assumes nothing.
 use native.Mathlib.Omega.{arith}
-use borrow.Author.Rules.{rules}
 use Rattle.report_text.proofs.Laws.{digit_facts}
 use Rattle.report_text.proofs.fields.more.Goals as goal
 

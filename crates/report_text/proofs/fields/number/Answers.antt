@@ -1,7 +1,6 @@
 -- `report_text::fields::number` meets its contract. Assumes nothing.
 use mathlib.Core.Path.{sym, ap, ◌∙◌}
 use native.Mathlib.Omega.{arith}
-use borrow.Author.Rules.{rules}
 use Rattle.report_text.specs.Values.{decimal_of}
 use Rattle.report_text.proofs.Laws.{number_none, number_long, number_one, number_zero, number_fair}
 use Rattle.report_text.proofs.fields.number.Goals as goal

@@ -1,14 +1,12 @@
 -- `report_text::fields::number_in` meets its contract. Assumes nothing.
-use Prim.Native.Nat.{◌-◌, ℕ}
+use Prim.Native.Nat.{ℕ}
 use mathlib.Core.Path.{sym, ap, ◌∙◌}
 use native.Mathlib.Omega.{arith}
-use borrow.Author.Tests.{not-true, not-false}
 use mathlib.Core.List.{List}
 use lib.ListN.{length}
 use Rattle.report_text.specs.Reader.{number_of}
 use Rattle.report_text.specs.Values.{decimal_of}
 use Rattle.report_text.proofs.Words.{begins_long, number_in_is, number_in_not, rest_part}
-use borrow.Author.Rules.{rules}
 use Rattle.report_text.proofs.fields.number_in.Goals as goal
 
 pub returns-then-not-has_word : goal.returns-then-not-has_word

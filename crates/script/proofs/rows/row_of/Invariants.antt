@@ -2,7 +2,6 @@
 -- nothing.
 use Prim.Native.Nat.{◌≤◌, ◌-◌, ◌+◌}
 use lib.ListN.{length}
-use borrow.Author.Rules.{rules}
 use Rattle.script.proofs.rows.row_of.Given as goal
 
 abbrev pub invariant-loop-at : goal.invariant-loop-at

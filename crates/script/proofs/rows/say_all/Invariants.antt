@@ -1,7 +1,6 @@
 -- As in row_of. Assumes nothing.
 use Prim.Native.Nat.{◌≤◌, ◌-◌, ◌+◌}
 use lib.ListN.{length}
-use borrow.Author.Rules.{rules}
 use Rattle.script.proofs.rows.say_all.Given as goal
 
 abbrev pub invariant-loop-from : goal.invariant-loop-from

@@ -1,11 +1,9 @@
 -- `shared_arena_hashmap::grow::clear` meets its contract. The invariant: the whole clearing is that of the `left`
 -- buckets from `at` on. Assumes nothing.
-use Prim.Native.Nat.{◌+◌, ◌-◌, ◌*◌, ◌≤◌}
-use mathlib.Core.Path.{◌≡◌, refl, sym, ap, ◌∙◌}
-use native.Mathlib.Omega.{arith}
+use Prim.Native.Nat.{◌+◌, ◌*◌, ◌≤◌}
+use mathlib.Core.Path.{◌≡◌}
 use lib.ListN.{length}
 use Rattle.shared_arena_hashmap.specs.Buckets.{cleared}
-use Rattle.shared_arena_hashmap.proofs.Laws.{cleared-turn, cleared-end}
 use Rattle.shared_arena_hashmap.proofs.grow.clear.Given as goal
 
 abbrev pub invariant-loop-left : goal.invariant-loop-left

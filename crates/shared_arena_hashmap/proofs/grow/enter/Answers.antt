@@ -2,7 +2,6 @@
 -- nothing.
 use mathlib.Core.Path.{◌≡◌, sym, ◌∙◌}
 use borrow.Author.Tests.{eq-eqb, ne_eqb}
-use borrow.Author.Rules.{rules}
 use Rattle.shared_arena_hashmap.specs.Grow.{free_of, entered}
 use Rattle.shared_arena_hashmap.proofs.grow.enter.Goals as goal
 

@@ -1,13 +1,11 @@
 -- The mask tells the bucket that the lookup met, which is the first empty one of the probe. Assumes nothing.
-use Prim.Native.Nat.{◌+◌, ◌-◌, ◌%◌, ◌<◌}
-use mathlib.Core.Path.{◌≡◌, sym, ap, ◌∙◌}
+use Prim.Native.Nat.{◌+◌, ◌-◌, ◌<◌}
+use mathlib.Core.Path.{◌≡◌, sym, ◌∙◌}
 use mathlib.Core.Logic.{◌≢◌}
 use native.Mathlib.Nat.{mod-lt}
 use native.Mathlib.Omega.{arith}
 use lib.Bits.{bit_and}
 use borrow.Author.Tests.{ne_eqb}
-use borrow.Author.Rules.{rules}
-use Rattle.shared_arena_hashmap.specs.Buckets.{with_bucket}
 use Rattle.shared_arena_hashmap.specs.Grow.{free_of, entered}
 use Rattle.shared_arena_hashmap.proofs.Laws.{power_facts, masked}
 use Rattle.shared_arena_hashmap.proofs.grow.enter_met.Goals as goal

@@ -1,13 +1,8 @@
 -- `shared_arena_hashmap::grow::free` meets its contract. The invariant: the first empty bucket of the probe is the
 -- first among `left` from `i`. Assumes nothing.
 use Prim.Native.Nat.{◌<◌}
-use mathlib.Core.Path.{◌≡◌, refl, sym, ◌∙◌}
-use native.Mathlib.Omega.{arith}
-use native.Mathlib.Nat.{mod-lt}
-use borrow.Author.Tests.{eq-eqb, ne_eqb}
-use borrow.Author.Rules.{rules}
+use mathlib.Core.Path.{◌≡◌}
 use Rattle.shared_arena_hashmap.specs.Grow.{free_from, free_of}
-use Rattle.shared_arena_hashmap.proofs.Laws.{free_turn, free_end}
 use Rattle.shared_arena_hashmap.proofs.grow.free.Given as goal
 
 abbrev pub invariant-loop-left : goal.invariant-loop-left

@@ -1,7 +1,6 @@
 -- `shared_arena_hashmap::grow::reenter` meets its contract. An empty bucket changes nothing; another is entered by its
 -- own words. Assumes nothing.
 use borrow.Author.Tests.{eq-eqb, ne_eqb}
-use borrow.Author.Rules.{rules}
 use Rattle.shared_arena_hashmap.specs.Grow.{reentered}
 use Rattle.shared_arena_hashmap.proofs.grow.reenter.Goals as goal
 

@@ -1,9 +1,8 @@
 -- `shared_arena_hashmap::grow::reenter_all` meets its contract. The invariant: all re-entered is the `left` buckets
 -- from `at` on re-entered. Assumes nothing.
-use Prim.Native.Nat.{◌+◌, ◌-◌, ◌*◌, ◌≤◌}
-use mathlib.Core.Path.{◌≡◌, refl, sym, ap, ◌∙◌}
+use Prim.Native.Nat.{◌+◌, ◌-◌}
+use mathlib.Core.Path.{refl, sym, ap, ◌∙◌}
 use native.Mathlib.Omega.{arith}
-use lib.ListN.{length}
 use Rattle.shared_arena_hashmap.specs.Grow.{all_reentered}
 use Rattle.shared_arena_hashmap.proofs.Laws.{reenter_turn, reenter_end}
 use Rattle.shared_arena_hashmap.proofs.grow.reenter_all.Goals as goal

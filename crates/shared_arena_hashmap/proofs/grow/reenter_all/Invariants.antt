@@ -1,11 +1,9 @@
 -- `shared_arena_hashmap::grow::reenter_all` meets its contract. The invariant: all re-entered is the `left` buckets
 -- from `at` on re-entered. Assumes nothing.
-use Prim.Native.Nat.{◌+◌, ◌-◌, ◌*◌, ◌≤◌}
-use mathlib.Core.Path.{◌≡◌, refl, sym, ap, ◌∙◌}
-use native.Mathlib.Omega.{arith}
+use Prim.Native.Nat.{◌+◌, ◌*◌, ◌≤◌}
+use mathlib.Core.Path.{◌≡◌}
 use lib.ListN.{length}
 use Rattle.shared_arena_hashmap.specs.Grow.{all_reentered}
-use Rattle.shared_arena_hashmap.proofs.Laws.{reenter_turn, reenter_end}
 use Rattle.shared_arena_hashmap.proofs.grow.reenter_all.Given as goal
 
 abbrev pub invariant-loop-left : goal.invariant-loop-left

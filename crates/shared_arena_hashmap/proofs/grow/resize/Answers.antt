@@ -1,6 +1,5 @@
 -- `shared_arena_hashmap::grow::resize` meets its contract. The two calls are the two steps of the definition. Assumes
 -- nothing.
-use borrow.Author.Rules.{rules}
 use Rattle.shared_arena_hashmap.proofs.Laws.{grown_code}
 use Rattle.shared_arena_hashmap.proofs.grow.resize.Goals as goal
 

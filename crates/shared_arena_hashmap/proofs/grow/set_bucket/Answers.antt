@@ -1,5 +1,4 @@
 -- `shared_arena_hashmap::grow::set_bucket` meets its contract. Two stores are the write of a bucket. Assumes nothing.
-use borrow.Author.Rules.{rules}
 use Rattle.shared_arena_hashmap.proofs.Laws.{stored-bucket}
 use Rattle.shared_arena_hashmap.proofs.grow.set_bucket.Goals as goal
 

@@ -1,6 +1,5 @@
 -- The header that was found, or damage. Assumes nothing.
 use mathlib.Core.Path.{sym, ap, ◌∙◌}
-use borrow.Author.Rules.{rules}
 use Rattle.records.proofs.Laws.{head-found, head_lost}
 use Rattle.store_look.proofs.Found.{block_4, block_found}
 use Rattle.store_look.specs.Look.{lent, on_block}

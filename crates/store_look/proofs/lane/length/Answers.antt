@@ -1,7 +1,6 @@
 -- The lookup's answer, or the list's at the place found. Assumes nothing.
 use mathlib.Core.Bool.{true}
 use mathlib.Core.Path.{◌≡◌, sym, subst, ◌∙◌}
-use borrow.Author.Rules.{rules}
 use Rattle.store_look.proofs.Fair.{fair-length}
 use Rattle.store_look.proofs.Found.{lookup-held, length_not, length-at}
 use Rattle.store_look.specs.Look.{lent}

@@ -1,15 +1,12 @@
 -- The refusals in their order, the guard of names, then the length. Assumes nothing.
 use mathlib.Core.Bool.{true}
 use mathlib.Core.Path.{◌≡◌, sym, subst, ◌∙◌}
-use borrow.Author.Rules.{rules}
-use borrow.Author.Tests.{not-true, not-false}
-use lib.ListN.{length}
 use Rattle.limits.specs.Refusals.{measuring, permitted}
 use Rattle.store_look.proofs.Fair.{fair-length}
 use Rattle.store_look.proofs.Found.{lookup_2, lookup_3, lookup-nameless}
 use Rattle.store_look.proofs.Walked.{length-by}
 use Rattle.store_look.specs.declared.Answer.{Answer}
-use Rattle.store_look.specs.Look.{Lent, lent, checked, length_of}
+use Rattle.store_look.specs.Look.{lent, checked, length_of}
 use Rattle.store_look.specs.Said.{said_answer}
 use Rattle.store_look.proofs.lane.length_alone.Goals as goal
 use Rattle.store_look.proofs.lane.length_alone.Goals.{Else-not-is_whole_state, Start}

@@ -1,7 +1,6 @@
 -- The header that was found, or damage. Assumes nothing.
 use Prim.Native.Nat.{ℕ}
 use mathlib.Core.Path.{sym, ap, ◌∙◌}
-use borrow.Author.Rules.{rules}
 use Rattle.records.proofs.Laws.{head-found, head_lost}
 use Rattle.store_look.proofs.Found.{length_4, length_found}
 use Rattle.store_look.specs.declared.Outcome.TheVariants.{Length}

@@ -2,12 +2,11 @@
 use mathlib.Core.Path.{◌≡◌, sym, ap, ◌∙◌}
 use native.Mathlib.Omega.{arith}
 use lib.ListN.{length}
-use borrow.Author.Rules.{rules}
 use Rattle.shared_arena_hashmap.specs.declared.Walk.{Walk}
 use Rattle.store_state.proofs.Whole.{Whole, whole_facts, find_asks}
 use Rattle.store_look.proofs.Walked.{walk-found}
 use Rattle.store_look.proofs.Found.{lookup-met, lookup-held, length_not, length-at}
-use Rattle.store_look.specs.Look.{Lent, lent, lookup_of}
+use Rattle.store_look.specs.Look.{lent, lookup_of}
 use borrow.Enum.Refused.{opened}
 use Rattle.store_look.proofs.lane.length_proper.Goals as goal
 use Rattle.store_look.proofs.lane.length_proper.Goals.{After-on_met-found, Start}

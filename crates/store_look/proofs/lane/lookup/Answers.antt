@@ -1,13 +1,10 @@
 -- The refusals in their order, the guard of names, then the walk. Assumes nothing.
 use mathlib.Core.Bool.{true}
 use mathlib.Core.Path.{◌≡◌, refl, sym, ap, subst, ◌∙◌}
-use borrow.Author.Rules.{rules}
-use borrow.Author.Tests.{not-true, not-false}
-use lib.ListN.{length}
 use Rattle.store_look.proofs.Fair.{fair-lookup}
 use Rattle.store_look.proofs.Found.{lookup_2, lookup_3, lookup-nameless, lookup-met}
 use Rattle.store_look.proofs.Found.{looked_2, looked_3, looked-nameless, looked-walk}
-use Rattle.store_look.specs.Look.{Lent, lent, checked}
+use Rattle.store_look.specs.Look.{lent, checked}
 use Rattle.store_look.specs.Said.{said_lookup}
 use Rattle.store_look.specs.declared.Lookup.{Lookup}
 use Rattle.limits.specs.Refusals.{looking_up, permitted}

@@ -1,6 +1,5 @@
 -- Case by case. Assumes nothing.
 use mathlib.Core.Path.{sym, ap}
-use borrow.Author.Rules.{rules}
 use Rattle.store_look.specs.Look.{on_block}
 use Rattle.store_look.proofs.lane.on_block.Goals as goal
 

@@ -1,7 +1,6 @@
 -- The lookup's answer, or the reading at the place found. Assumes nothing.
 use mathlib.Core.Bool.{true}
 use mathlib.Core.Path.{◌≡◌, sym, ap, subst, ◌∙◌}
-use borrow.Author.Rules.{rules}
 use lib.ListN.{length}
 use Rattle.store_look.proofs.Fair.{fair-read}
 use Rattle.store_look.proofs.Found.{lookup-held, read_not, read_at_lem}

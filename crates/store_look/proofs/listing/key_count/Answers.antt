@@ -1,6 +1,5 @@
 -- The check, then the count. Assumes nothing.
 use mathlib.Core.Path.{refl, sym, ◌∙◌}
-use borrow.Author.Rules.{rules}
 use Rattle.store_look.proofs.Found.{count_keys, count_2}
 use Rattle.store_look.specs.Look.{lent}
 use Rattle.store_look.proofs.listing.key_count.Goals as goal

@@ -3,8 +3,6 @@ use Prim.Native.Nat.{ℕ, ◌+◌, ◌-◌, ◌*◌, ◌≤◌}
 use mathlib.Core.Bool.{true}
 use mathlib.Core.Path.{◌≡◌, refl, sym, ap, subst, ◌∙◌}
 use native.Mathlib.Omega.{arith}
-use borrow.Author.Rules.{rules}
-use borrow.Author.Tests.{not-true, not-false}
 use lib.ListN.{length}
 use Rattle.store_look.proofs.Fair.{fair-next}
 use Rattle.store_look.proofs.Found.{next_2, next_past, next-on}

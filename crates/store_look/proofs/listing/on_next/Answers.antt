@@ -1,6 +1,5 @@
 -- Case by case. Assumes nothing.
 use mathlib.Core.Path.{sym, ap, ◌∙◌}
-use borrow.Author.Rules.{rules}
 use Rattle.store_look.proofs.Found.{next-good, next_bad, next_none}
 use Rattle.store_look.specs.Look.{on_next}
 use Rattle.store_look.proofs.listing.on_next.Goals as goal

@@ -1,8 +1,5 @@
 -- The invariant: every area keeps its length. The measure is the lines that may come. Assumes nothing.
-use mathlib.Core.Path.{◌≡◌}
-use lib.ListN.{length}
 use native.Mathlib.Omega.{arith}
-use borrow.Author.Rules.{rules}
 use Rattle.testbench.proofs.play.play_input.Goals as goal
 
 pub loop-lines-smaller : goal.loop-lines-smaller

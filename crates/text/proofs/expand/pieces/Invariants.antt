@@ -3,7 +3,6 @@
 use lib.ListN.{length}
 use mathlib.Core.Path.{◌≡◌}
 use Prim.Native.Nat.{◌≤◌, ◌-◌, ◌+◌}
-use borrow.Author.Rules.{rules}
 use Rattle.text.proofs.expand.pieces.Given as goal
 
 abbrev pub invariant-loop-at : goal.invariant-loop-at

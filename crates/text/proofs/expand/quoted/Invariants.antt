@@ -3,7 +3,6 @@
 use lib.ListN.{length}
 use mathlib.Core.Path.{◌≡◌}
 use Prim.Native.Nat.{◌≤◌, ◌-◌}
-use borrow.Author.Rules.{rules}
 use Rattle.text.proofs.expand.quoted.Given as goal
 
 abbrev pub invariant-loop-i : goal.invariant-loop-i

@@ -1,7 +1,6 @@
 -- The invariant: the place lies between the start and the end. The measure is what is left. Assumes nothing.
 use lib.ListN.{length}
 use Prim.Native.Nat.{◌≤◌, ◌-◌, min}
-use borrow.Author.Rules.{rules}
 use Rattle.text.proofs.scan.find.Given as goal
 
 abbrev pub invariant-loop-i : goal.invariant-loop-i

@@ -1,7 +1,6 @@
 -- The invariant: the next part starts in the text or at its end. The measure is the parts to pass. Assumes nothing.
 use lib.ListN.{length}
 use Prim.Native.Nat.{◌≤◌}
-use borrow.Author.Rules.{rules}
 use Rattle.text.proofs.scan.part.Given as goal
 
 abbrev pub invariant-loop-left : goal.invariant-loop-left

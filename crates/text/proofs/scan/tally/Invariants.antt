@@ -1,7 +1,6 @@
 -- The invariant: no more were counted than bytes were passed. The measure is what is left of the text. Assumes nothing.
 use Prim.Native.Nat.{◌≤◌, ◌-◌}
 use lib.ListN.{length}
-use borrow.Author.Rules.{rules}
 use Rattle.text.proofs.scan.tally.Given as goal
 
 abbrev pub invariant-loop-at : goal.invariant-loop-at

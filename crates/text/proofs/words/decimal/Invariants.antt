@@ -1,7 +1,6 @@
 -- The measure is the digits that are left. Assumes nothing.
 use lib.ListN.{length}
 use Prim.Native.Nat.{◌≤◌, ◌-◌}
-use borrow.Author.Rules.{rules}
 use Rattle.text.proofs.words.decimal.Given as goal
 
 abbrev pub invariant-loop-i : goal.invariant-loop-i

@@ -1,6 +1,5 @@
 -- The measure is the words that are left. Assumes nothing.
 use Prim.Native.Nat.{◌≤◌, ◌-◌, ◌+◌}
-use borrow.Author.Rules.{rules}
 use Rattle.text.proofs.words.place_of.Given as goal
 
 abbrev pub invariant-loop-k : goal.invariant-loop-k
