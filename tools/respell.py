@@ -153,7 +153,7 @@ def camel(turned):
 def antt(text, turned):
     few = camel(turned)
     # a file has the lemma where it declares it or imports it from a file of proofs
-    left = re.search(r"(?m)^(pub )?(" + "|".join(LEMMAS) + r") :|^ +(" + "|".join(LEMMAS) + r") :|proofs\.\w+\.\{[^}]*\b(" + "|".join(LEMMAS) + r")\b", text)
+    left = re.search(r"(?m)^(pub )?(" + "|".join(LEMMAS) + r") :|^ +(pub )?(" + "|".join(LEMMAS) + r") :|proofs\.\w+\.\{[^}]*\b(" + "|".join(LEMMAS) + r")\b", text)
     out = []
     for line in text.split("\n"):
         i = line.find("--")
