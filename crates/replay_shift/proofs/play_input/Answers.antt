@@ -6,4 +6,4 @@ pub loop-lines-smaller : goal.loop-lines-smaller
 loop-lines-smaller c = omega (arith, c.next-lines.ensures, c.loop-lines-test)
 
 pub loop-lines-preserved : goal.loop-lines-preserved
-loop-lines-preserved c = omega (arith, c.play_line-shift.kept, c.next-lines.kept, c.loop-lines.invariant)
+loop-lines-preserved c = omega (arith, c.play_line-shift.auto, c.next-lines.auto, c.loop-lines.invariant)
