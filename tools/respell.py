@@ -201,7 +201,8 @@ def port_turned(text, known):
     """Names that port.py turned in the files, in a text that it doesn't turn."""
     def one(m):
         n = m.group(0)
-        if n in known or not re.search(r"[a-z][A-Z]|-|·", n):
+        # a type's name keeps its capital: one that isn't ours is the crate's
+        if n in known or n[:1].isupper() or not re.search(r"[a-z][A-Z]|-|·", n):
             return n
         for new in ("_".join(snake(q) for q in re.split("[-·]", n)), "-".join(snake(q) for q in n.split("-"))):
             if new in known:

@@ -82,7 +82,7 @@ fn say_appended(a: Appended, used: usize) -> usize {
     }
 }
 
-// `Flat-append NAME BYTES`
+// `flat-append NAME BYTES`
 fn append(f: Flat, line: &[u8], buffer: &mut [u8], name: &mut [u8], output: &mut [u8]) -> Flat {
     let g = words::two_bytes(line, name, output);
     if g.fault != 0 {

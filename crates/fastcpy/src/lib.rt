@@ -30,7 +30,8 @@ pub fn fast_short_slice_copy(src: &[u8], dst: &mut [u8]) -> Copied
         return Copied::Refused(9);
     }
     let len = src.len();
-    if 16 < len {
+    let is_long = 16 < len;
+    if is_long {
         copy_parts(src, dst);
         return Copied::Done;
     }

@@ -4,7 +4,7 @@
 // what a history is, its log of accepted appends, and what the log comes to, name by name; `Due` the number that an
 // append is due; `Numbers` that of every call; `Promises` what the calls answer; `Frames` what an accepted append
 // leaves alone, and where a byte may differ; `Sound` what a history leaves in the lent memory; `Cases` has small
-// histories worked out. `demand-3` of proofs/Demand.antt proves it, of every store that an accepted creation made on
+// histories worked out. `demand_3` of proofs/Demand.antt proves it, of every store that an accepted creation made on
 // any lent memory and of every list of calls, over the very definitions that the store's contracts cite. It assumes
 // nothing.
 //

@@ -1,4 +1,4 @@
--- RULES AD5. What pieces come to in a store with a history: `Piece-back` and `pieces-joined` of proofs/Joined.antt
+-- RULES AD5. What pieces come to in a store with a history: `piece_back` and `pieces-joined` of proofs/Joined.antt
 -- prove the two records of each store that an accepted creation made and of any calls on it.
 use Rattle.std.specs.Prelude.{ℕ, ◌-◌, ◌≤◌, ◌<◌, min, ◌≡◌, List, [], ◌++◌, length, take}
 use Rattle.std.proofs.Math.Option.{none, some}

@@ -194,7 +194,8 @@ fn piece_at(
         return Pieced::Refused(4, 0);
     };
     let length = expull_header::lane_length(h);
-    if length < given {
+    let is_above = length < given;
+    if is_above {
         return Pieced::Refused(2, 0);
     }
     let room = output.len() as u64;

@@ -68,7 +68,8 @@ pub fn name_kind(st: State, n: usize) -> Name
     ensures { result ≡ name_kind st n }
 {
     let limit = name_limit(st);
-    if limit < n {
+    let is_too_long = limit < n;
+    if is_too_long {
         return Name::TooLong;
     }
     if n == 0 {

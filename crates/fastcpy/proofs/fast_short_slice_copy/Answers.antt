@@ -7,8 +7,8 @@ use Rattle.fastcpy.proofs.fast_short_slice_copy.Goals as goal
 pub returns-then-src-dst : goal.returns-then-src-dst
 returns-then-src-dst c = record { settled = sym (copy_refused _ _ (λ e. omega arith)); numbered = refl }
 
-pub returns-then-len-gt16 : goal.returns-then-len-gt16
-returns-then-len-gt16 c =
+pub returns-then-is_long : goal.returns-then-is_long
+returns-then-is_long c =
     record {
       settled = out_done c.args.src.now c.args.dst.now _ (omega arith) c.copy_parts.ensures;
       numbered = refl;

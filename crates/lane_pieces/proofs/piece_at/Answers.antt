@@ -10,15 +10,15 @@ use Rattle.lane_pieces.specs.declared.Pieced.TheVariants.{Given, Refused}
 use Rattle.lane_pieces.specs.Piece.{piece_length, out, piece_at}
 use Rattle.lane_pieces.proofs.Pieces.{piece_4, piece_2, piece_8, piece_none, piece-put}
 use Rattle.lane_pieces.proofs.piece_at.Goals as goal
-use Rattle.lane_pieces.proofs.piece_at.Goals.{After-least-n, After-slice_known-2-1, Else-length-given, Else-room-eq0, In-Sound}
+use Rattle.lane_pieces.proofs.piece_at.Goals.{After-least-n, After-slice_known-2-1, Else-is_above, Else-room-eq0, In-Sound}
 
 -- the header that was found
 headed : (c : In-Sound) → Headed c.args.keys.now c.args.at c.in-Sound.h
 headed c = head-found _ _ _ (sym c.get_head-head.ensures ∙ c.in-Sound.is)
 
 -- the count isn't above it; there is a place; how many bytes that gives
-counted : (c : Else-length-given) → c.args.given ≤ lane_length (c.in-Sound.h)
-counted c = omega (arith, c.lane_length-length.ensures, c.if-length-given.false)
+counted : (c : Else-is_above) → c.args.given ≤ lane_length (c.in-Sound.h)
+counted c = omega (arith, c.lane_length-length.ensures, c.if-is_above.false)
 
 placed : (c : Else-room-eq0) → 0 < length c.args.output.now
 placed c = omega (arith, c.if-room-eq0.false)
@@ -38,7 +38,7 @@ given_out c t e =
     (let it : c.args.given ≤ lane_length (c.in-Sound.h) = omega (
       arith,
       c.lane_length-length.ensures,
-      c.if-length-given.false,
+      c.if-is_above.false,
     ) in it) (let it : 0 < length c.args.output.now = omega (arith, c.if-room-eq0.false) in
     it) c.least-n.result (let it : c.least-n.result ≡ piece_length (c.in-Sound.h) c.args.given (length
     c.args.output.now) = let a = c.args in c.least-n.ensures ∙ ap (λ (n : ℕ). min (length a.output.now) (n -
@@ -53,32 +53,32 @@ returns-in_default c =
 pub lane_length-length-requires : goal.lane_length-length-requires
 lane_length-length-requires c = (headed (goal.at.lane_length-length-requires c).In-Sound).ends
 
-pub returns-then-length-given : goal.returns-then-length-given
-returns-then-length-given c =
+pub returns-then-is_above : goal.returns-then-is_above
+returns-then-is_above c =
     let a = c.args in sym (piece_2 a.arena a.keys.now a.lists.now a.given a.at a.output.now (headed
-    (goal.at.returns-then-length-given c).In-Sound) (omega (
+    (goal.at.returns-then-is_above c).In-Sound) (omega (
       arith,
       c.lane_length-length.ensures,
-      c.if-length-given.true,
+      c.if-is_above.true,
     )))
 
 pub returns-then-room-eq0 : goal.returns-then-room-eq0
 returns-then-room-eq0 c =
     let a = c.args in ap (λ (n : ℕ). out (Refused 8 n) a.output.now) c.lane_length-length.ensures ∙ sym (piece_8
     a.arena a.keys.now a.lists.now a.given a.at a.output.now (headed (goal.at.returns-then-room-eq0 c).In-Sound)
-    (counted (goal.at.returns-then-room-eq0 c).Else-length-given) c.if-room-eq0.true)
+    (counted (goal.at.returns-then-room-eq0 c).Else-is_above) c.if-room-eq0.true)
 
 pub returns-then-n-eq0 : goal.returns-then-n-eq0
 returns-then-n-eq0 c =
     let a = c.args in sym (piece_none a.arena a.keys.now a.lists.now a.given a.at a.output.now (headed
-    (goal.at.returns-then-n-eq0 c).In-Sound) (counted (goal.at.returns-then-n-eq0 c).Else-length-given) (placed
+    (goal.at.returns-then-n-eq0 c).In-Sound) (counted (goal.at.returns-then-n-eq0 c).Else-is_above) (placed
     (goal.at.returns-then-n-eq0 c).Else-room-eq0) c.least-n.result (many (goal.at.returns-then-n-eq0
     c).After-least-n) c.if-n-eq0.true)
 
 pub put_piece-requires : goal.put_piece-requires
 put_piece-requires c =
     let e = many (goal.at.put_piece-requires c).After-least-n in
-    let k = counted (goal.at.put_piece-requires c).Else-length-given in record {
+    let k = counted (goal.at.put_piece-requires c).Else-is_above in record {
       sense = c.requires.0;
       sound =
           (headed (goal.at.put_piece-requires c).In-Sound).ends;

@@ -5,10 +5,10 @@ use native.Mathlib.Omega.{arith}
 use Rattle.store_state.proofs.Guard.{kind-long, kind-nameless, kind_proper}
 use Rattle.store_state.proofs.name_kind.Goals as goal
 
-pub returns-then-limit-n : goal.returns-then-limit-n
-returns-then-limit-n c =
+pub returns-then-is_too_long : goal.returns-then-is_too_long
+returns-then-is_too_long c =
     sym (kind-long c.args.st c.args.n (subst (λ (k : ℕ). k < c.args.n) c.name_limit-limit.ensures
-    c.if-limit-n.true))
+    c.if-is_too_long.true))
 
 pub returns-then-n-eq0 : goal.returns-then-n-eq0
 returns-then-n-eq0 c = sym (kind-nameless c.args.st c.args.n (omega arith))
@@ -18,5 +18,5 @@ returns c =
     sym (kind_proper c.args.st c.args.n (omega arith) (omega (
       arith,
       c.name_limit-limit.ensures,
-      c.if-limit-n.false,
+      c.if-is_too_long.false,
     )))
