@@ -1,9 +1,12 @@
 // The numbers of documents 01 and 02, each under a name, in one place: what bounds the store, and what an answer says.
 //
-// It promises nothing by itself: it has no function. `specs/Limits.antt` has the same numbers for the definitions, with
-// the laws that tie them together, and every contract above is stated over those; a constant that disagreed would fail
-// the first proof that meets it. `specs/Refusals.antt` says what an answer is in the paper's terms. It uses nothing.
+// `specs/Limits.antt` has the same numbers for the definitions, with the laws that tie them together, and every contract
+// above is stated over those; a constant that disagreed would fail the first proof that meets it. `specs/Refusals.antt`
+// says what an answer is in the paper's terms. Of a refusal it promises its number. It uses nothing.
 #![tactic(auto)]
+
+ghost use Rattle.std.specs.Prelude.{◌≡◌};
+ghost use Rattle.limits.specs.Refusals.{number_of};
 
 // A page's bytes: powers of two from the smallest to the crate's, which is the largest.
 pub const SMALLEST_PAGE: usize = 65536;
@@ -51,3 +54,39 @@ pub const FED_LIMIT: u32 = 4294967295;
 
 // Digits of a report's longest decimal.
 pub const DIGIT_LIMIT: usize = 18;
+
+// Why a call refuses, in the order of the numbers by which it is told.
+#[derive(Clone, Copy, Debug, PartialEq, Eq)]
+pub enum Refusal {
+    // creation: a capacity, a page size or lent memory that it doesn't take
+    NotCreatable = 1,
+    // the state isn't one of the lent memory, or a count isn't one of the lane
+    NotWhole,
+    NameTooLong,
+    // a record, a header, a block or an entry that isn't whole
+    Damaged,
+    TableFull,
+    KeysFull,
+    ListsFull,
+    OutputTooShort,
+    // where the Rust crate would panic: lengths that differ, no byte, more than a page's
+    WrongLength,
+    // an arena's state or an address that isn't one of the lent memory
+    OutOfArena,
+    // a vint without an end, and one in another form than the written one
+    NoEnd,
+    AnotherForm,
+    Nameless,
+    BufferFull,
+    // a text that is no report
+    NoReport,
+}
+
+impl Refusal {
+    // The number that stands for it outside.
+    pub fn number(self) -> u32
+        ensures { result ≡ number_of self }
+    {
+        self as u32
+    }
+}
