@@ -5,8 +5,5 @@ ghost use Rattle.std.specs.Prelude.{◌≡◌, min};
 pub fn least(a: u64, b: u64) -> u64
     ensures { result ≡ min a b }
 {
-    if a < b {
-        return a;
-    }
-    b
+    a.min(b)
 }

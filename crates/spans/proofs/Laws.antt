@@ -4,7 +4,7 @@ use Prim.Native.Nat.{ℕ, zero, suc, ◌+◌, ◌-◌, ◌*◌, ◌^◌, ◌≤�
 use mathlib.Core.Path.{◌≡◌, refl, sym, ap, ◌∙◌}
 use mathlib.Core.Logic.{⊎_elim}
 use mathlib.Core.List.{List, [], ◌∷◌, ◌++◌, append_assoc}
-use native.Mathlib.Nat.{suc-add, zero-add, pow-suc, mul_assoc, mul_comm}
+use native.Mathlib.Nat.{suc-add, zero-add}
 use native.Mathlib.Numerals.{towards_suc}
 use native.Mathlib.Omega.{arith}
 use lib.ListN.{length, take, drop, get_or, set, length-take, length-drop}
@@ -12,7 +12,8 @@ use lib.Seq.{take-nil, drop-nil, take-add, drop-drop, drop-cons, take-suc, take-
 use lib.Seq.{length-take-le, sets, sets-eq}
 use borrow.Rule.Slice.PartMut.{put_mid, Post-is}
 use Rattle.numbers.specs.LittleEndian.{le_number, le_bytes, Bytes}
-use Rattle.numbers.proofs.Laws.{length_le, le_round}
+use Rattle.std.specs.Int.{Width, byte_len, from_le_bytes}
+use Rattle.numbers.proofs.Laws.{length_le, le_round, number_append, from_le}
 use Rattle.spans.specs.Span.{read_span, overwrite, Apart}
 
 -- ---- lengths
@@ -231,19 +232,16 @@ number_back w p x m h k =
     rw length_le at (read_written p (le_bytes w x) m (omega (arith, length_le w x))) in
     rw e (le_round w x k)
 
--- the number of two runs of bytes, one behind the other
-number_append : (bs cs : List ℕ) → le_number (bs ++ cs) ≡ le_number bs + 256 ^ length bs * le_number cs
-unfolding le_number
-number_append [] cs = omega arith
-number_append (b ∷ bs) cs =
-    rw (number_append bs cs, pow-suc 256 (length bs))
-    (omega (arith, mul_assoc 256 (256 ^ length bs) (le_number cs), mul_comm 256 (256 ^ length bs)))
-
 -- eight bytes as two fours
 pub number_8 : (p : ℕ) (m : List ℕ) → p + 8 ≤ length m
     → le_number (read_span p 8 m) ≡ le_number (read_span p 4 m) + 4294967296 * le_number (read_span (p + 4) 4 m)
 number_8 p m h =
     rw (span_add p 4 4 m, number_append (read_span p 4 m) (read_span (p + 4) 4 m), length_span p 4 m (omega arith))
+
+-- a number that the library makes of a span
+pub number_at : (w : Width) (p : ℕ) (m : List ℕ) {bs : List ℕ} {n : ℕ} → p + byte_len w ≤ length m
+    → bs ≡ read_span p (byte_len w) m → n ≡ from_le_bytes w bs → n ≡ le_number (read_span p (byte_len w) m)
+number_at w p m h e q = q ∙ ap (from_le_bytes w) e ∙ from_le w (read_span p (byte_len w) m) (length_span p (byte_len w) m h)
 
 -- the elements of a span of bytes are bytes
 pub span_bytes : (m : List ℕ) (p n : ℕ) → ((i : ℕ) → get_or m i 0 < 256) → Bytes (read_span p n m)

@@ -1,9 +1,9 @@
--- The two bytes of the span, one by one. Assumes nothing.
-use mathlib.Core.Path.{sym, ap, ◌∙◌}
+-- The number that the library makes of the span. Assumes nothing.
 use native.Mathlib.Omega.{arith}
-use Rattle.spans.proofs.Laws.{span_2}
-use Rattle.numbers.specs.LittleEndian.{le_number}
+use Rattle.std.specs.Int.{w16}
+use Rattle.spans.proofs.Laws.{number_at}
 use Rattle.spans.proofs.get_u16.Goals as goal
 
 pub returns : goal.returns
-returns c = (c.le_2.ensures.0 ∙ sym (ap le_number (span_2 c.args.at c.args.mem.now (omega arith))), c.le_2.ensures.1)
+returns c =
+    (number_at w16 c.args.at c.args.mem.now (omega arith) c.bytes_at.ensures c.from_le_bytes.ensures, omega arith)

@@ -1,9 +1,8 @@
--- The four bytes of the span, one by one. Assumes nothing.
-use mathlib.Core.Path.{sym, ap, ◌∙◌}
+-- The number that the library makes of the span. Assumes nothing.
 use native.Mathlib.Omega.{arith}
-use Rattle.spans.proofs.Laws.{span_4}
-use Rattle.numbers.specs.LittleEndian.{le_number}
+use Rattle.std.specs.Int.{w32}
+use Rattle.spans.proofs.Laws.{number_at}
 use Rattle.spans.proofs.get_u32.Goals as goal
 
 pub returns : goal.returns
-returns c = c.le_4.ensures ∙ sym (ap le_number (span_4 c.args.at c.args.mem.now (omega arith)))
+returns c = number_at w32 c.args.at c.args.mem.now (omega arith) c.bytes_at.ensures c.from_le_bytes.ensures

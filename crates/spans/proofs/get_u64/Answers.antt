@@ -1,8 +1,8 @@
--- Two numbers of four bytes, one behind the other. Assumes nothing.
+-- The number that the library makes of the span. Assumes nothing.
 use native.Mathlib.Omega.{arith}
-use Rattle.spans.proofs.Laws.{number_8}
+use Rattle.std.specs.Int.{w64}
+use Rattle.spans.proofs.Laws.{number_at}
 use Rattle.spans.proofs.get_u64.Goals as goal
 
 pub returns : goal.returns
-returns c =
-    omega (arith, number_8 c.args.at c.args.mem.now (omega arith), c.get_u32-low.ensures, c.get_u32-high.ensures)
+returns c = number_at w64 c.args.at c.args.mem.now (omega arith) c.bytes_at.ensures c.from_le_bytes.ensures

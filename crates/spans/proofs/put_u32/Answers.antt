@@ -1,22 +1,13 @@
--- Four stores in a row are one write. Assumes nothing.
-use native.Mathlib.Numerals.{towards_suc}
-use native.Mathlib.Omega.{arith}
-use lib.ListN.{length-set}
-use Rattle.spans.proofs.Laws.{stores}
-use Rattle.numbers.proofs.Laws.{length_le}
-use Rattle.numbers.specs.LittleEndian.{le_bytes}
+-- The bytes that the library makes of the number. Assumes nothing.
+use mathlib.Core.Path.{ap, ◌∙◌}
+use mathlib.Core.List.{List}
+use Prim.Native.Nat.{ℕ}
+use Rattle.std.specs.Int.{w32}
+use Rattle.numbers.proofs.Laws.{to_le}
+use Rattle.spans.specs.Span.{overwrite}
 use Rattle.spans.proofs.put_u32.Goals as goal
 
-pub bounds-mem-at-2 : goal.bounds-mem-at-2
-bounds-mem-at-2 c = simp length-set (omega arith)
-
-pub bounds-mem-at-3 : goal.bounds-mem-at-3
-bounds-mem-at-3 c = simp length-set (omega arith)
-
-pub bounds-mem-at-4 : goal.bounds-mem-at-4
-bounds-mem-at-4 c = simp length-set (omega arith)
-
 pub returns : goal.returns
-unfolding le_bytes
 returns c =
-    let a = c.args in simp towards_suc (stores a.mem.now a.at (le_bytes 4 a.x) (omega (arith, length_le 4 a.x)))
+    c.put_bytes.ensures ∙ ap (λ (bs : List ℕ). overwrite c.args.at bs c.args.mem.now)
+    (c.to_le_bytes.ensures ∙ to_le w32 _)
