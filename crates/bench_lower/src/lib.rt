@@ -8,7 +8,6 @@
 
 ghost use Rattle.std.specs.Prelude.{◌≤◌, length};
 
-use fastcpy::Copied;
 use memory_arena::{Allocated, Arena, Touched};
 use text::words::{Number, Taken};
 use text::{fault, words};
@@ -92,8 +91,8 @@ fn equal(line: &[u8], name: &mut [u8], output: &mut [u8]) {
 fn say_copied(a: &[u8], b: &mut [u8]) {
     let copied = fastcpy::fast_short_slice_copy(a, b);
     match copied {
-        Copied::Done => say::line(b"copied"),
-        Copied::Refused(n) => say::refused(n),
+        Ok(()) => say::line(b"copied"),
+        Err(r) => say::refused(r.number()),
     }
 }
 

@@ -1,27 +1,27 @@
 -- RULES H2. Document 01, port step 2 and refusal 9: a copy between equal lengths; unequal lengths are refused, and
 -- nothing is written then.
-use Rattle.std.specs.Prelude.{ℕ, ◌≡◌, refl, cond, List, [], ◌∷◌, eqb, length}
-use Rattle.limits.specs.Refusals.{Said, answered, refused, done, one-outcome}
-use Rattle.fastcpy.specs.declared.Copied.{Copied}
-use Rattle.fastcpy.specs.declared.Copied.TheVariants.{Done, Refused}
+use Rattle.std.specs.Prelude.{ℕ, ◌≡◌, refl, cond, List, [], ◌∷◌, eqb, length, ⊤, Result, Ok, Err}
+use Rattle.limits.specs.Refusals.{Said, answered, refused, done, one-outcome, number_of}
+use Rattle.limits.specs.declared.Refusal.{Refusal}
+use Rattle.limits.specs.declared.Refusal.TheVariants.{WrongLength}
 
 -- RULES H2. What a copy answers, and what the destination holds afterwards.
 pub record Out : Type 0 where
-  pub answer : Copied
+  pub answer : Result ⊤ Refusal
   pub dst : List ℕ
 
 -- RULES H2. Both put together.
-abbrev pub out : Copied → List ℕ → Out
+abbrev pub out : Result ⊤ Refusal → List ℕ → Out
 out a d = record { answer = a; dst = d }
 
 -- RULES H2. The destination becomes the source, or stays.
 unfoldable pub copy_of : List ℕ → List ℕ → Out
-copy_of src dst = cond (eqb (length src) (length dst)) (out Done src) (out (Refused 9) dst)
+copy_of src dst = cond (eqb (length src) (length dst)) (out (Ok tt) src) (out (Err WrongLength) dst)
 
 -- RULES X7. The answer in document 01's terms.
-abbrev pub said_copied : Copied → Said
-said_copied Done = answered done []
-said_copied (Refused n) = refused n []
+abbrev pub said_copied : Result ⊤ Refusal → Said
+said_copied (Ok u) = answered done []
+said_copied (Err r) = refused (number_of r) []
 
 -- RULES X7. A row a case: what the call says then.
 pub said_cases : (said_copied (copy_of (1 ∷ 2 ∷ []) (3 ∷ 4 ∷ [])).answer ≡ answered done [])

@@ -12,35 +12,44 @@ ghost use Rattle.limits.specs.Refusals.{copying, permitted};
 ghost use Rattle.spans.specs.Span.{overwrite};
 ghost use Rattle.fastcpy.specs.Copy.{out, copy_of, said_copied};
 
-#[derive(Clone, Copy)]
-pub enum Copied {
-    Done,
-    Refused(u32),
-}
-
-// Bytes of the parts that a long copy is made in: a list's largest block is one.
-const PART: usize = 32768;
+use limits::Refusal;
 
 // Copies src over dst.
-pub fn fast_short_slice_copy(src: &[u8], dst: &mut [u8]) -> Copied
+#[tactic(auto, unfolding(crate::specs::Copy::copy_of))]
+pub fn fast_short_slice_copy(src: &[u8], dst: &mut [u8]) -> Result<(), Refusal>
     ensures settled { out result dst.new ≡ copy_of src.now dst.old }
     ensures numbered { permitted copying (said_copied result) ≡ true }
 {
     if src.len() != dst.len() {
-        return Copied::Refused(9);
+        return Err(Refusal::WrongLength);
     }
+    copy_over(src, dst);
+    Ok(())
+}
+
+// The same where the lengths are known to be equal.
+fn copy_over(src: &[u8], dst: &mut [u8])
+    requires { length src.now ≡ length dst.old }
+    ensures { dst.new ≡ src.now }
+{
     let len = src.len();
     let is_long = 16 < len;
     if is_long {
-        copy_parts(src, dst);
-        return Copied::Done;
+        return copy_long(src, dst);
     }
     if len < 4 {
-        copy_upto_3(src, dst);
-        return Copied::Done;
+        return copy_upto_3(src, dst);
     }
-    copy_words(src, dst);
-    Copied::Done
+    copy_words(src, dst)
+}
+
+// More than that: a block move. Out of line, so that a short copy, which is the usual one, saves no register for it.
+#[inline(never)]
+fn copy_long(src: &[u8], dst: &mut [u8])
+    requires { length src.now ≡ length dst.old }
+    ensures { dst.new ≡ src.now }
+{
+    dst.copy_from_slice(src);
 }
 
 // No byte to three: the first, the middle and the last one.
@@ -82,70 +91,12 @@ fn copy_words(src: &[u8], dst: &mut [u8])
     spans::put_u32(dst, last, d);
 }
 
-// Where the part from `at` on ends.
-fn part_end(at: usize, len: usize) -> usize
-    requires { at < len }
-    ensures { (at < result) × ((result ≤ len) × (result ≤ at + 32768)) }
-{
-    if PART < len - at {
-        return at + PART;
-    }
-    len
-}
-
-// More than that: part by part.
-fn copy_parts(src: &[u8], dst: &mut [u8])
-    requires { length src.now ≡ length dst.old }
-    ensures { dst.new ≡ src.now }
-{
-    let mut at = 0;
-    while at < src.len() {
-        let to = part_end(at, src.len());
-        copy_part(&src[at..to], &mut dst[at..to]);
-        at = to;
-    }
-}
-
-// A part, by way of an array. That is the faster way: nothing but this function knows the array, so the compiler can
-// tell that neither copy overlaps itself, makes one block move of both, and the array goes. It can't tell that of src
-// and dst, and leaves a copy from one to the other a loop.
-fn copy_part(src: &[u8], dst: &mut [u8])
-    requires { (length src.now ≤ 32768) × (length src.now ≡ length dst.old) }
-    ensures { dst.new ≡ src.now }
-{
-    let mut near = [0u8; PART];
-    copy_through(src, &mut near, dst);
-}
-
-fn copy_through(src: &[u8], near: &mut [u8], dst: &mut [u8])
-    requires { (length src.now ≤ length near.old) × (length src.now ≡ length dst.old) }
-    ensures { dst.new ≡ src.now }
-{
-    let n = src.len();
-    if n == 0 {
-        return;
-    }
-    copy_from_slice(src, &mut near[0..n]);
-    copy_from_slice(&near[0..n], dst);
-}
-
-// Byte by byte.
-fn copy_from_slice(src: &[u8], dst: &mut [u8])
-    requires { length src.now ≡ length dst.old }
-    ensures { dst.new ≡ src.now }
-{
-    let mut i = 0;
-    while i < src.len() {
-        dst[i] = src[i];
-        i += 1;
-    }
-}
-
 // Copies all of src to a place of a memory.
+#[tactic(auto, using(spans::proofs::Laws::part_back))]
 pub fn copy_in(mem: &mut [u8], at: usize, src: &[u8])
     requires { at + length src.now ≤ length mem.old }
     ensures { mem.new ≡ overwrite at src.now mem.old }
 {
     let e = at + src.len();
-    fast_short_slice_copy(src, &mut mem[at..e]);
+    copy_over(src, &mut mem[at..e]);
 }

@@ -14,6 +14,6 @@ returns c =
       c.put_u32-2.ensures,
       c.put_u32.ensures,
     ) (four_words c.args.src.now c.args.dst.now n ((n - 1) / 8 * 4) c.get_u32-a.result
-    c.get_u32-b.result c.get_u32-c.result c.get_u32-d.result (λ k. (c.shared_slice_known-1.given k).fits) refl
+    c.get_u32-b.result c.get_u32-c.result c.get_u32-d.result (λ k. (c.type_inv.src k).fits) refl
     (omega arith) (omega arith) (omega arith) refl c.get_u32-a.ensures c.get_u32-b.ensures c.get_u32-c.ensures
     c.get_u32-d.ensures)
