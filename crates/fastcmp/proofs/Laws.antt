@@ -4,12 +4,12 @@ use Prim.Native.Nat.{ℕ, ◌+◌, ◌≤◌, ◌<◌}
 use mathlib.Core.Path.{◌≡◌, refl, sym, ap, ◌∙◌}
 use mathlib.Core.Bool.{Bool, true, false, ◌&&◌, false≢true}
 use mathlib.Core.List.{List, [], ◌∷◌, ◌++◌}
-use native.Mathlib.Numerals.{add-one}
 use native.Mathlib.Omega.{arith}
 use lib.Dec.{eqb}
-use lib.ListN.{length, take, drop, get_or, drop_of_length-le}
-use lib.Seq.{drop-cons, take_all, take-take, take-add}
+use lib.ListN.{length, take, get_or}
+use lib.Seq.{take_all, take-take, take-add}
 use borrow.Author.Tests.{eq-eqb, eqb-true, eqb-false}
+use Rattle.std.specs.Cmp.Lexicographic.{pointwise}
 use Rattle.numbers.specs.LittleEndian.{le_number}
 use Rattle.numbers.proofs.Laws.{le_same}
 use Rattle.spans.specs.Span.{read_span}
@@ -64,49 +64,42 @@ equal_both x y a b f g = go (equal_bytes x y) refl
     go true e = e ∙ sym (equal_same a b (f (equal_true x y e)))
     go false e = e ∙ sym (equal_not a b (λ p. equal_false x y e (g p)))
 
--- ---- a loop over bytes: the test from i on
-
-pub equal_turn : (a b : List ℕ) (i : ℕ) → i < length a → i < length b
-    → equal_bytes (drop i a) (drop i b) ≡ (eqb (get_or a i 0) (get_or b i 0) && equal_bytes (drop (i + 1) a) (drop (i + 1) b))
+-- the library's comparison is the same test
+pub pointwise_same : (a b : List ℕ) → pointwise eqb a b ≡ equal_bytes a b
 unfolding equal_bytes
-equal_turn a b i h k = rw (add-one i, drop-cons a i 0 h, drop-cons b i 0 k)
-
-pub equal_end : (a b : List ℕ) (i : ℕ) → length a ≤ i → length b ≤ i → equal_bytes (drop i a) (drop i b) ≡ true
-unfolding equal_bytes
-equal_end a b i h k = rw (drop_of_length-le a h, drop_of_length-le b k)
+pointwise_same [] [] = refl
+pointwise_same [] (y ∷ b) = refl
+pointwise_same (x ∷ a) [] = refl
+pointwise_same (x ∷ a) (y ∷ b) = ap (λ (t : Bool). eqb x y && t) (pointwise_same a b)
 
 -- ---- eight bytes as one number
 
--- the span of eight from i in two lists of bytes, by its number
-pub span_same : (a b : List ℕ) (i : ℕ) → ((k : ℕ) → get_or a k 0 < 256) → ((k : ℕ) → get_or b k 0 < 256)
-    → i + 8 ≤ length a → i + 8 ≤ length b
-    → le_number (read_span i 8 a) ≡ le_number (read_span i 8 b) → read_span i 8 a ≡ read_span i 8 b
-span_same a b i f g h k e =
-    le_same (read_span i 8 a) (read_span i 8 b) (span_bytes a i 8 f) (span_bytes b i 8 g)
-    (length_span i 8 a h ∙ sym (length_span i 8 b k)) e
-
--- equal as far as i, and in the eight from j, which is i or before it: equal as far as those go
-pub eight-on : (a b : List ℕ) (i j : ℕ) → j ≤ i → take i a ≡ take i b → read_span j 8 a ≡ read_span j 8 b
-    → take (j + 8) a ≡ take (j + 8) b
+-- equal as far as i, and the eight from j, which is i or before it, have one number: equal as far as those go
+pub eight_on : (a b : List ℕ) (i j : ℕ) → ((k : ℕ) → get_or a k 0 < 256) → ((k : ℕ) → get_or b k 0 < 256) → j ≤ i
+    → j + 8 ≤ length a → length a ≡ length b → take i a ≡ take i b → {x y : ℕ} → x ≡ le_number (read_span j 8 a)
+    → y ≡ le_number (read_span j 8 b) → x ≡ y → take (j + 8) a ≡ take (j + 8) b
 unfolding read_span
-eight-on a b i j h p q =
+eight_on a b i j f g h k l p q r e =
+    let n : length (read_span j 8 a) ≡ length (read_span j 8 b) = length_span j 8 a k
+    ∙ sym (length_span j 8 b (omega arith)) in
+    let w : read_span j 8 a ≡ read_span j 8 b = le_same (read_span j 8 a) (read_span j 8 b) (span_bytes a j 8 f)
+    (span_bytes b j 8 g) n (sym q ∙ e ∙ r) in
     let s : take j a ≡ take j b = sym (take-take j i a h) ∙ ap (take j) p ∙ take-take j i b h in
-    take-add j 8 a ∙ (λ k. s k ++ q k) ∙ sym (take-add j 8 b)
+    take-add j 8 a ∙ (λ t. s t ++ w t) ∙ sym (take-add j 8 b)
 
 -- the numbers differ: so do the lists
-pub eight_not : (a b : List ℕ) (i : ℕ) → (le_number (read_span i 8 a) ≡ le_number (read_span i 8 b) → ⊥)
-    → equal_bytes a b ≡ false
-eight_not a b i h = equal_not a b (λ e. h (ap (λ (l : List ℕ). le_number (read_span i 8 l)) e))
+pub eight_not : (a b : List ℕ) (i : ℕ) {x y : ℕ} → x ≡ le_number (read_span i 8 a) → y ≡ le_number (read_span i 8 b)
+    → (x ≡ y → ⊥) → equal_bytes a b ≡ false
+eight_not a b i q r h = equal_not a b (λ e. h (q ∙ ap (λ (l : List ℕ). le_number (read_span i 8 l)) e ∙ sym r))
 
 -- equal as far as i, and the last eight, which start there or before, have one number or not: that decides
 pub eight_last : (a b : List ℕ) (i j : ℕ) → ((k : ℕ) → get_or a k 0 < 256) → ((k : ℕ) → get_or b k 0 < 256) → j ≤ i
-    → j + 8 ≡ length a → length a ≡ length b
-    → take i a ≡ take i b → (x y : ℕ) → x ≡ le_number (read_span j 8 a) → y ≡ le_number (read_span j 8 b)
-    → eqb x y ≡ equal_bytes a b
-eight_last a b i j f g h l n p x y q r = go (eqb x y) refl
+    → j + 8 ≡ length a → length a ≡ length b → take i a ≡ take i b → {x y : ℕ} → x ≡ le_number (read_span j 8 a)
+    → y ≡ le_number (read_span j 8 b) → eqb x y ≡ equal_bytes a b
+eight_last a b i j f g h l n p {x} {y} q r = go (eqb x y) refl
   where
     go : (t : Bool) → eqb x y ≡ t → eqb x y ≡ equal_bytes a b
     go true e =
-        let s = eight-on a b i j h p (span_same a b j f g (omega arith) (omega arith) (sym q ∙ eqb-true x y e ∙ r)) in
+        let s : take (j + 8) a ≡ take (j + 8) b = eight_on a b i j f g h (omega arith) n p q r (eqb-true x y e) in
         e ∙ sym (equal_same a b (sym (take_all (j + 8) a (omega arith)) ∙ s ∙ take_all (j + 8) b (omega arith)))
-    go false e = e ∙ sym (eight_not a b j (λ z. eqb-false x y e (q ∙ z ∙ sym r)))
+    go false e = e ∙ sym (eight_not a b j q r (eqb-false x y e))
