@@ -1,15 +1,18 @@
--- Laws of the test of equality: what it says, a turn of a loop over bytes or over parts, parts that cover the whole.
--- Assumes nothing.
+-- Laws of the test of equality: what it says, and eight bytes at a time that cover the whole. Assumes nothing.
 use Prim.Native.Nat.{ℕ, ◌+◌, ◌≤◌, ◌<◌}
 use mathlib.Core.Path.{◌≡◌, refl, sym, ap, ◌∙◌}
-use mathlib.Core.Bool.{Bool, true, false, ◌&&◌, false≢true}
-use mathlib.Core.List.{List, [], ◌∷◌, ◌++◌}
+use mathlib.Core.Bool.{Bool, true, false, false≢true}
+use mathlib.Core.List.{List, ◌++◌}
 use native.Mathlib.Omega.{arith}
 use lib.Dec.{eqb}
 use lib.ListN.{length, take, get_or}
 use lib.Seq.{take_all, take-take, take-add}
-use borrow.Author.Tests.{eq-eqb, eqb-true, eqb-false}
+use borrow.Author.Tests.{eqb-true, eqb-false}
+use Rattle.std.specs.Bool.{Decides}
 use Rattle.std.specs.Cmp.Lexicographic.{pointwise}
+use Rattle.std.proofs.Common.{rules}
+use Rattle.std.proofs.lemmas.Bool.Decides.{same_from_decides, not_from_Decides, Decides-like}
+use Rattle.std.proofs.lemmas.Slice.Eq.{compares_Decides, bytes_eq-Decides}
 use Rattle.numbers.specs.LittleEndian.{le_number}
 use Rattle.numbers.proofs.Laws.{le_same}
 use Rattle.spans.specs.Span.{read_span}
@@ -18,59 +21,39 @@ use Rattle.fastcmp.specs.Equal.{equal_bytes}
 
 -- ---- what the test says
 
-pub equal_true : (a b : List ℕ) → equal_bytes a b ≡ true → a ≡ b
+pub equal_decides : (a b : List ℕ) → Decides (equal_bytes a b) (a ≡ b)
 unfolding equal_bytes
-equal_true [] [] e = refl
-equal_true [] (y ∷ ys) e = absurd (false≢true e)
-equal_true (x ∷ xs) [] e = absurd (false≢true e)
-equal_true (x ∷ xs) (y ∷ ys) e = go (eqb x y) refl e (equal_true xs ys)
-  where
-    go : (t : Bool) → eqb x y ≡ t → (t && equal_bytes xs ys) ≡ true → (equal_bytes xs ys ≡ true → xs ≡ ys)
-        → x ∷ xs ≡ y ∷ ys
-    go true q r f = let p : x ≡ y = eqb-true x y q in let z : xs ≡ ys = f r in cc
-    go false q r f = absurd (false≢true r)
+equal_decides a b = compares_Decides equal_bytes (search rules) a b
 
-pub equal_refl : (a : List ℕ) → equal_bytes a a ≡ true
-unfolding equal_bytes
-equal_refl [] = refl
-equal_refl (x ∷ xs) = rw (eq-eqb x x refl) (equal_refl xs)
+pub equal_true : (a b : List ℕ) → equal_bytes a b ≡ true → a ≡ b
+equal_true a b = (equal_decides a b).0
 
 pub equal_same : (a b : List ℕ) → a ≡ b → equal_bytes a b ≡ true
-equal_same a b e = rw e (equal_refl b)
+equal_same a b = (equal_decides a b).1
+
+pub equal_refl : (a : List ℕ) → equal_bytes a a ≡ true
+equal_refl a = equal_same a a refl
 
 pub equal_false : (a b : List ℕ) → equal_bytes a b ≡ false → a ≡ b → ⊥
-equal_false a b f e = false≢true (sym f ∙ equal_same a b e)
+equal_false a b = not_from_Decides (equal_bytes a b) (equal_decides a b)
 
 pub equal_not : (a b : List ℕ) → (a ≡ b → ⊥) → equal_bytes a b ≡ false
-equal_not a b h = go (equal_bytes a b) refl
-  where
-    go : (t : Bool) → equal_bytes a b ≡ t → equal_bytes a b ≡ false
-    go true e = absurd (h (equal_true a b e))
-    go false e = e
+equal_not a b h =
+    same_from_decides (equal_bytes a b) false (equal_decides a b) (λ e. absurd (false≢true e), λ p. absurd (h p))
 
 -- lists of unequal lengths are not equal
 pub equal_long : (a b : List ℕ) → (length a ≡ length b → ⊥) → equal_bytes a b ≡ false
 equal_long a b h = equal_not a b (λ e. h (ap length e))
 
--- what is made of both in the same way differs: so do they
-pub equal_under : (f : List ℕ → List ℕ) (a b : List ℕ) → equal_bytes (f a) (f b) ≡ false → equal_bytes a b ≡ false
-equal_under f a b e = equal_not a b (λ p. equal_false (f a) (f b) e (ap f p))
-
 -- two tests agree where the equalities that they test follow from each other
 pub equal_both : (x y a b : List ℕ) → (x ≡ y → a ≡ b) → (a ≡ b → x ≡ y) → equal_bytes x y ≡ equal_bytes a b
-equal_both x y a b f g = go (equal_bytes x y) refl
-  where
-    go : (t : Bool) → equal_bytes x y ≡ t → equal_bytes x y ≡ equal_bytes a b
-    go true e = e ∙ sym (equal_same a b (f (equal_true x y e)))
-    go false e = e ∙ sym (equal_not a b (λ p. equal_false x y e (g p)))
+equal_both x y a b f g =
+    same_from_decides (equal_bytes x y) (equal_bytes a b) (equal_decides x y)
+    (Decides-like (equal_bytes a b) g f (equal_decides a b))
 
 -- the library's comparison is the same test
 pub pointwise_same : (a b : List ℕ) → pointwise eqb a b ≡ equal_bytes a b
-unfolding equal_bytes
-pointwise_same [] [] = refl
-pointwise_same [] (y ∷ b) = refl
-pointwise_same (x ∷ a) [] = refl
-pointwise_same (x ∷ a) (y ∷ b) = ap (λ (t : Bool). eqb x y && t) (pointwise_same a b)
+pointwise_same a b = same_from_decides (pointwise eqb a b) (equal_bytes a b) (bytes_eq-Decides a b) (equal_decides a b)
 
 -- ---- eight bytes as one number
 
