@@ -4,12 +4,12 @@
 // down from document 01. It uses numbers and spans.
 #![tactic(auto)]
 
-ghost use Rattle.std.specs.Prelude.{◌≡◌, [], ◌∷◌, ◌-◌, ◌/◌, ◌^◌, ◌≤◌, ◌<◌, length, drop};
-ghost use Rattle.numbers.specs.LittleEndian.{le_number};
+ghost use Rattle.std.specs.Prelude.{◌≡◌, ◌-◌, ◌/◌, ◌^◌, ◌≤◌, ◌<◌, length, drop};
 ghost use Rattle.murmurhash2.specs.Murmur.{mixed, turned, taken, ended, murmur_hash2};
 
 const M: u32 = 0x5BD1E995;
 
+#[tactic(auto, unfolding(crate::specs::Murmur::mixed))]
 fn mix(k: u32) -> u32
     ensures { result ≡ mixed k }
 {
@@ -18,12 +18,14 @@ fn mix(k: u32) -> u32
     numbers::wrapping_mul(b, M)
 }
 
+#[tactic(auto, unfolding(crate::specs::Murmur::turned))]
 fn turn(h: u32, k: u32) -> u32
     ensures { result ≡ turned h k }
 {
     numbers::wrapping_mul(h, M) ^ mix(k)
 }
 
+#[tactic(auto, unfolding(crate::specs::Murmur::ended))]
 fn end(h: u32) -> u32
     ensures { result ≡ ended h }
 {
@@ -31,32 +33,18 @@ fn end(h: u32) -> u32
     a ^ (a >> 15)
 }
 
-// One to three bytes as a little-endian number, the missing ones 0.
-fn le_upto_3(a: u8, b: u8, c: u8) -> u32
-    ensures { result ≡ le_number (a ∷ b ∷ c ∷ []) }
-{
-    (a as u32) + 256 * ((b as u32) + 256 * (c as u32))
-}
-
-// A key of fewer than four bytes.
+// A key of fewer than four bytes: as a little-endian number, the missing bytes 0.
 fn last(s: &[u8], h: u32) -> u32
     requires { length s.now < 4 }
     ensures { result ≡ taken h s.now }
 {
-    let n = s.len();
-    if n == 0 {
-        return h;
-    }
-    if n == 1 {
-        let k = le_upto_3(s[0], 0, 0);
-        return numbers::wrapping_mul(h ^ k, M);
-    }
-    if n == 2 {
-        let k = le_upto_3(s[0], s[1], 0);
-        return numbers::wrapping_mul(h ^ k, M);
-    }
-    let k = le_upto_3(s[0], s[1], s[2]);
-    numbers::wrapping_mul(h ^ k, M)
+    let four = match s {
+        [] => return h,
+        [a] => [*a, 0, 0, 0],
+        [a, b] => [*a, *b, 0, 0],
+        [a, b, c, ..] => [*a, *b, *c, 0],
+    };
+    numbers::wrapping_mul(h ^ u32::from_le_bytes(four), M)
 }
 
 // The bytes behind the last whole four of a longer key: the last four as one number, with those that were taken
@@ -84,6 +72,7 @@ fn shifted(x: u32, shift: u32) -> u32
 }
 
 // The hash of a key.
+#[tactic(auto, unfolding(crate::specs::Murmur::murmur_hash2))]
 pub fn murmurhash2(key: &[u8], seed: u32) -> u32
     ensures { result ≡ murmur_hash2 seed key.now }
 {
@@ -100,13 +89,10 @@ fn fours(key: &[u8], start: u32) -> u32
     requires { 4 ≤ length key.now }
     ensures { result ≡ taken start key.now }
 {
-    let n = key.len();
+    let (fours, rest) = key.as_chunks::<4>();
     let mut h = start;
-    let mut i = 0;
-    while 4 <= n - i {
-        let k = spans::get_u32(key, i);
-        h = turn(h, k);
-        i += 4;
+    for four in fours {
+        h = turn(h, u32::from_le_bytes(*four));
     }
-    tail(key, n - i, h)
+    tail(key, rest.len(), h)
 }

@@ -18,4 +18,4 @@ pub returns : goal.returns
 returns c =
     c.wrapping_mul-mixed.ensures ∙ ap (λ (k : ℕ). wrap_mul (bit_xor c.args.h k) m) (c.shifted-k.ensures ∙ ap (λ (x :
     ℕ). x / 2 ^ (32 - 8 * c.args.left)) c.get_u32-four.ensures) ∙ taken_tail c.args.h c.args.key.now c.args.left (λ
-    i. (c.shared_slice_known-1.given i).fits) (omega arith) (omega arith) (omega arith)
+    i. (c.type_inv.key i).fits) (omega arith) (omega arith) (omega arith)

@@ -1,8 +1,0 @@
--- Three bytes as a number. Assumes nothing.
-use native.Mathlib.Omega.{arith}
-use Rattle.numbers.specs.LittleEndian.{le_number}
-use Rattle.murmurhash2.proofs.le_upto_3.Goals as goal
-
-pub returns : goal.returns
-unfolding le_number
-returns c = omega arith
