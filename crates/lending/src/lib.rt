@@ -24,15 +24,6 @@ const BUCKETS: u64 = limits::WORD_LIMIT as u64 / 2;
 // What of a page that is left behind is never used, at most: a byte less than the largest block with its link.
 const BLOCK_TAIL: u64 = 32771;
 
-fn at_least_one(n: u64) -> u64
-    ensures { result ≡ max 1 n }
-{
-    if n == 0 {
-        return 1;
-    }
-    n
-}
-
 // Pages that hold so much, with the tails that are left behind.
 fn with_tails(page: u64, tail: u64, total: u64) -> u64
     requires { (tail < page) × ((page ≤ 1048576) × (total ≤ 300000000000)) }
@@ -51,14 +42,14 @@ fn taken_at_most(lanes: u64, bytes: u64) -> u64
 {
     let short = (5 * bytes + 20 * lanes) / 2;
     let long = bytes + bytes / 8192 + 32816 * lanes;
-    numbers::long::least(short, long)
+    short.min(long)
 }
 
 fn list_bytes_for(page: u64, lanes: u64, bytes: u64) -> u64
     requires { (65536 ≤ page) × ((page ≤ 1048576) × ((lanes ≤ 4194304) × (bytes ≤ 4294967295))) }
     ensures { result ≡ list_bytes_for page lanes bytes }
 {
-    at_least_one(with_tails(page, BLOCK_TAIL, taken_at_most(lanes, bytes)))
+    u64::max(1, with_tails(page, BLOCK_TAIL, taken_at_most(lanes, bytes)))
 }
 
 fn key_bytes_for(page: u64, lanes: u64, longest: u64) -> u64
@@ -67,7 +58,7 @@ fn key_bytes_for(page: u64, lanes: u64, longest: u64) -> u64
 {
     let record = longest + limits::RECORD_EXTRA as u64;
     let on_page = page / record;
-    let before = lanes - numbers::long::least(lanes, 1);
+    let before = lanes.saturating_sub(1);
     before / on_page * page + (before % on_page + 1) * record
 }
 
@@ -89,10 +80,7 @@ pub fn lend_for(lanes: u64, bytes: u64, longest: u64, page: u64) -> Lend
         return Lend::NoSuchPage;
     }
     let most = limits::ADDRESSES as u64 - page;
-    let name_most = numbers::long::least(
-        limits::NAME_LIMIT as u64,
-        page - limits::RECORD_EXTRA as u64,
-    );
+    let name_most = (limits::NAME_LIMIT as u64).min(page - limits::RECORD_EXTRA as u64);
     let are_few = (lanes <= BUCKETS) & ((bytes <= most) & (longest <= name_most));
     if !are_few {
         return Lend::TooMuch;

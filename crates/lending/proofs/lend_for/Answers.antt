@@ -9,7 +9,7 @@ use Rattle.lending.specs.declared.Lend.TheVariants.{Areas}
 use Rattle.lending.specs.Lending.{key_bytes_for, list_bytes_for, capacity_for, asks_few, lends_few}
 use Rattle.lending.proofs.Laws.{most_is, asked_facts, lend_no_page, lend_asked, lend_lent, lend_areas}
 use Rattle.lending.proofs.lend_for.Goals as goal
-use Rattle.lending.proofs.lend_for.Goals.{After-least-name_most, After-list_bytes_for-lists, Else-not-are_few, Else-not-is_page_size}
+use Rattle.lending.proofs.lend_for.Goals.{After-min-name_most, After-list_bytes_for-lists, Else-not-are_few, Else-not-is_page_size}
 
 -- ---- what the tests say
 page_so : (c : Else-not-is_page_size) → page_taken c.args.page ≡ true
@@ -23,19 +23,19 @@ page_in c = (
       c.is_page_size.ensures ∙ c.if-not-is_page_size.false in it),
 )
 
-asked : (c : After-least-name_most) → (b : Bool) → (leb c.args.lanes bucket_limit && (leb c.args.bytes (4294967296 -
-    c.args.page) && leb c.args.longest c.least-name_most.result)) ≡ b → asks_few c.args.page c.args.lanes
+asked : (c : After-min-name_most) → (b : Bool) → (leb c.args.lanes bucket_limit && (leb c.args.bytes (4294967296 -
+    c.args.page) && leb c.args.longest c.min-name_most.result)) ≡ b → asks_few c.args.page c.args.lanes
     c.args.bytes c.args.longest ≡ b
 asked c b e =
     (λ i. leb c.args.lanes bucket_limit && (leb c.args.bytes (sym (most_is c.args.page (let it : page_taken
     c.args.page ≡ true = sym c.is_page_size.ensures ∙ c.if-not-is_page_size.false in it)) i) && leb c.args.longest
-    (sym c.least-name_most.ensures i))) ∙ e
+    (sym c.min-name_most.ensures i))) ∙ e
 
 asked_so : (c : Else-not-are_few) → asks_few c.args.page c.args.lanes c.args.bytes c.args.longest ≡ true
 asked_so c =
     ((λ i. leb c.args.lanes bucket_limit && (leb c.args.bytes (sym (most_is c.args.page (let it : page_taken
     c.args.page ≡ true = sym c.is_page_size.ensures ∙ c.if-not-is_page_size.false in it)) i) && leb c.args.longest
-    (sym c.least-name_most.ensures i))) ∙ (c.if-not-are_few.false))
+    (sym c.min-name_most.ensures i))) ∙ (c.if-not-are_few.false))
 
 few : (c : Else-not-are_few) → (c.args.lanes ≤ bucket_limit) × ((c.args.bytes ≤ arena_limit_for c.args.page) ×
     (c.args.longest ≤ name_limit_for c.args.page))
@@ -43,7 +43,7 @@ few c =
     asked_facts c.args.page c.args.lanes c.args.bytes c.args.longest (let it : asks_few c.args.page c.args.lanes
     c.args.bytes c.args.longest ≡ true = ((λ i. leb c.args.lanes bucket_limit && (leb c.args.bytes (sym (most_is
     c.args.page (let it : page_taken c.args.page ≡ true = sym c.is_page_size.ensures ∙ c.if-not-is_page_size.false
-    in it)) i) && leb c.args.longest (sym c.least-name_most.ensures i))) ∙ (c.if-not-are_few.false)) in it)
+    in it)) i) && leb c.args.longest (sym c.min-name_most.ensures i))) ∙ (c.if-not-are_few.false)) in it)
 
 lent : (c : After-list_bytes_for-lists) → (b : Bool) → (leb c.capacity_for-capacity.result bucket_limit && (leb
     c.key_bytes_for-keys.result (4294967296 - c.args.page) && leb c.list_bytes_for-lists.result (4294967296 -
@@ -72,7 +72,7 @@ returns-then-not-are_few c =
     record {
       settled = lend_asked c.args.page c.args.lanes c.args.bytes c.args.longest (page_so
           (goal.at.returns-then-not-are_few c).Else-not-is_page_size) (asked (goal.at.returns-then-not-are_few
-          c).After-least-name_most _ (c.if-not-are_few.true));
+          c).After-min-name_most _ (c.if-not-are_few.true));
     }
 
 pub capacity_for-capacity-requires : goal.capacity_for-capacity-requires

@@ -6,5 +6,5 @@ use Rattle.lending.proofs.list_bytes_for.Goals as goal
 
 pub returns : goal.returns
 returns c =
-    c.at_least_one.ensures ∙ ap (max 1) (c.with_tails.ensures ∙ ap (with_tails c.args.page block_tail)
+    c.max.ensures ∙ ap (max 1) (c.with_tails.ensures ∙ ap (with_tails c.args.page block_tail)
     c.taken_at_most.ensures.0)
