@@ -3,10 +3,11 @@
 //
 // Each reads its words, makes at most one call and says what it answered. It promises that it ends and stays inside
 // what is lent, whatever the line, the used count and the buffer are; what the call answers, flat_store promises. It
-// uses numbers, murmurhash2, flat_store, text, say and bench_areas.
+// uses limits, numbers, murmurhash2, flat_store, text, say and bench_areas.
 #![tactic(auto)]
 
-use flat_store::{Answer, Appended, Lookup};
+use flat_store::NotRead;
+use limits::Refusal;
 use text::{fault, words};
 
 // How much of the memory is the lent buffer, and how much of that is used.
@@ -69,14 +70,14 @@ fn set_used(f: Flat, line: &[u8]) -> Flat {
 }
 
 // The used count after an append.
-fn say_appended(a: Appended, used: usize) -> usize {
+fn say_appended(a: Result<usize, Refusal>, used: usize) -> usize {
     match a {
-        Appended::Accepted(next) => {
+        Ok(next) => {
             say::line(b"accepted");
             next
         }
-        Appended::Declined(n) => {
-            say::refused(n);
+        Err(r) => {
+            say::refused(r.number());
             used
         }
     }
@@ -98,11 +99,11 @@ fn append(f: Flat, line: &[u8], buffer: &mut [u8], name: &mut [u8], output: &mut
     }
 }
 
-fn say_lookup(l: Lookup) {
+fn say_lookup(l: Result<bool, Refusal>) {
     match l {
-        Lookup::Standing => say::line(b"standing"),
-        Lookup::Missing => say::line(b"absent"),
-        Lookup::Failed(n) => say::refused(n),
+        Ok(true) => say::line(b"standing"),
+        Ok(false) => say::line(b"absent"),
+        Err(r) => say::refused(r.number()),
     }
 }
 
@@ -116,14 +117,22 @@ fn lookup(used: usize, line: &[u8], buffer: &[u8], name: &mut [u8]) {
     say_lookup(flat_store::look::lookup(buffer, used, &name[0..n]))
 }
 
-// A length's or a reading's answer, without the end of its line.
-fn say_answer(a: Answer) {
+// A length's answer, without the end of its line.
+fn say_length(a: Result<Option<u64>, Refusal>) {
     match a {
-        Answer::Absent => say::text(b"absent"),
-        Answer::Length(n) => say::told(b"length ", n),
-        Answer::Reading(n) => say::told(b"reading ", n),
-        Answer::TooShort(n) => say::told(b"refused 8 ", n),
-        Answer::Refused(n) => say::told(b"refused ", n as u64),
+        Ok(Some(n)) => say::told(b"length ", n),
+        Ok(None) => say::text(b"absent"),
+        Err(r) => say::told(b"refused ", r.number() as u64),
+    }
+}
+
+// A reading's, likewise.
+fn say_read(a: Result<Option<u64>, NotRead>) {
+    match a {
+        Ok(Some(n)) => say::told(b"reading ", n),
+        Ok(None) => say::text(b"absent"),
+        Err(NotRead::TooShort(n)) => say::told(b"refused 8 ", n),
+        Err(NotRead::Refused(r)) => say::told(b"refused ", r.number() as u64),
     }
 }
 
@@ -134,13 +143,13 @@ fn length(used: usize, line: &[u8], buffer: &[u8], name: &mut [u8]) {
         return say::fault(a.fault);
     }
     let n = a.n;
-    say_answer(flat_store::look::length(buffer, used, &name[0..n]));
+    say_length(flat_store::look::length(buffer, used, &name[0..n]));
     say::end()
 }
 
-fn say_reading(a: Answer, output: &[u8]) {
-    say_answer(a);
-    let Answer::Reading(n) = a else {
+fn say_reading(a: Result<Option<u64>, NotRead>, output: &[u8]) {
+    say_read(a);
+    let Ok(Some(n)) = a else {
         return say::kept(output);
     };
     say::written(n as usize, output)

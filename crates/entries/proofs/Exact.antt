@@ -13,9 +13,9 @@ use Rattle.numbers.specs.LittleEndian.{le_number, le_bytes, Bytes}
 use Rattle.numbers.proofs.Laws.{le_back}
 use Rattle.spans.specs.Span.{read_span}
 use Rattle.spans.proofs.Laws.{length_span, span_add, span_none}
-use Rattle.entries.specs.declared.Next.TheVariants.{Whole, NoEntry}
+use Rattle.std.specs.Prelude.{None}
 use Rattle.entries.specs.Log.{Entry, entry}
-use Rattle.entries.specs.Form.{encoded, encoded_all, entry_at, Met, met, in_front, entries_from, entries_of}
+use Rattle.entries.specs.Form.{encoded, encoded_all, whole, entry_at, Met, met, in_front, entries_from, entries_of}
 use Rattle.entries.proofs.Laws.{entry_short, entry_cut, entry-long, entry_whole, entries_none, entries-whole}
 
 -- ---- bytes in a span
@@ -49,9 +49,9 @@ record Entered (run : List ℕ) (at : ℕ) : Type 0 where
   n_is : n ≡ le_number (read_span at 2 run)
   m_is : m ≡ le_number (read_span (at + 2 + n) 4 run)
   within : at + 2 + n + 4 + m ≤ length run
-  told : entry_at run at ≡ Whole (at + 2 + n) (at + 2 + n + 4) (at + 2 + n + 4 + m)
+  told : entry_at run at ≡ whole (at + 2 + n) (at + 2 + n + 4) (at + 2 + n + 4 + m)
 
-entry_cases : (run : List ℕ) (at : ℕ) → (entry_at run at ≡ NoEntry) ⊎ Entered run at
+entry_cases : (run : List ℕ) (at : ℕ) → (entry_at run at ≡ None) ⊎ Entered run at
 entry_cases run at = go1 (leb 6 (length run - at)) refl
   where
     k : ℕ
@@ -61,7 +61,7 @@ entry_cases run at = go1 (leb 6 (length run - at)) refl
     l = le_number (read_span (at + 2 + k) 4 run)
 
     go3 : (t : Bool) → leb l (length run - at - 6 - k) ≡ t → 6 ≤ length run - at → k ≤ length run - at - 6
-        → (entry_at run at ≡ NoEntry) ⊎ Entered run at
+        → (entry_at run at ≡ None) ⊎ Entered run at
     go3 true q h i =
         let j : l ≤ length run - at - 6 - k = leb-true _ _ q in
         inr (record {
@@ -75,11 +75,11 @@ entry_cases run at = go1 (leb 6 (length run - at)) refl
     go3 false q h i = inl (entry-long run at k l refl refl h i (leb-false _ _ q))
 
     go2 : (t : Bool) → leb k (length run - at - 6) ≡ t → 6 ≤ length run - at
-        → (entry_at run at ≡ NoEntry) ⊎ Entered run at
+        → (entry_at run at ≡ None) ⊎ Entered run at
     go2 true q h = go3 (leb l (length run - at - 6 - k)) refl h (leb-true _ _ q)
     go2 false q h = inl (entry_cut run at k refl h (leb-false _ _ q))
 
-    go1 : (t : Bool) → leb 6 (length run - at) ≡ t → (entry_at run at ≡ NoEntry) ⊎ Entered run at
+    go1 : (t : Bool) → leb 6 (length run - at) ≡ t → (entry_at run at ≡ None) ⊎ Entered run at
     go1 true q = go2 (leb k (length run - at - 6)) refl (leb-true _ _ q)
     go1 false q = inl (entry_short run at (leb-false _ _ q))
 
@@ -149,7 +149,7 @@ unfolding entries_from
 from_exact zero run at b = exact_none run at
 from_exact (suc n) run at b = go (entry_cases run at) (λ p. from_exact n run p b)
   where
-    go : (entry_at run at ≡ NoEntry) ⊎ Entered run at → ((p : ℕ) → Exact run p (entries_from n run p))
+    go : (entry_at run at ≡ None) ⊎ Entered run at → ((p : ℕ) → Exact run p (entries_from n run p))
         → Exact run at (entries_from (suc n) run at)
     go (inl e) more = subst (Exact run at) (sym (entries_none run at (suc n) e)) (exact_none run at)
     go (inr W) more =
@@ -163,18 +163,18 @@ exact run b =
 
 -- ---- no entry is left out
 
-from_all : (n : ℕ) (run : List ℕ) (at : ℕ) → length run ≤ at + n → entry_at run (entries_from n run at).end ≡ NoEntry
+from_all : (n : ℕ) (run : List ℕ) (at : ℕ) → length run ≤ at + n → entry_at run (entries_from n run at).end ≡ None
 unfolding entries_from to
 from_all zero run at h = entry_short run at (omega arith)
 from_all (suc n) run at h = go (entry_cases run at) (λ p k. from_all n run p k)
   where
-    go : (entry_at run at ≡ NoEntry) ⊎ Entered run at
-        → ((p : ℕ) → length run ≤ p + n → entry_at run (entries_from n run p).end ≡ NoEntry)
-        → entry_at run (entries_from (suc n) run at).end ≡ NoEntry
+    go : (entry_at run at ≡ None) ⊎ Entered run at
+        → ((p : ℕ) → length run ≤ p + n → entry_at run (entries_from n run p).end ≡ None)
+        → entry_at run (entries_from (suc n) run at).end ≡ None
     go (inl e) more = ap (λ (m : Met). entry_at run m.end) (entries_none run at (suc n) e) ∙ e
     go (inr W) more =
         ap (λ (m : Met). entry_at run m.end) (entered-turn run at W n)
         ∙ more (to run at W) (omega arith)
 
-pub all-met : (run : List ℕ) → entry_at run (entries_of run).end ≡ NoEntry
+pub all-met : (run : List ℕ) → entry_at run (entries_of run).end ≡ None
 all-met run = from_all (length run) run 0 (omega arith)

@@ -11,26 +11,25 @@ use Rattle.numbers.specs.LittleEndian.{le_number, le_bytes}
 use Rattle.numbers.proofs.Laws.{length_le, le_round}
 use Rattle.spans.specs.Span.{read_span, overwrite}
 use Rattle.spans.proofs.Laws.{overwrite-append}
-use Rattle.entries.specs.declared.Next.{Next}
-use Rattle.entries.specs.declared.Next.TheVariants.{Whole, NoEntry}
+use Rattle.std.specs.Prelude.{None}
 use Rattle.entries.specs.Log.{Entry, entry}
-use Rattle.entries.specs.Form.{encoded, entry_size, encoded_all, Fits, AllFit, entry_at, Inside, met, in_front}
+use Rattle.entries.specs.Form.{encoded, entry_size, encoded_all, Fits, AllFit, Next, whole, entry_at, met, in_front}
 use Rattle.entries.specs.Form.{on_next, entries_from, entries_of}
 
 -- ---- an entry, by its tests
 
 module _ (run : List ℕ) (at : ℕ) where
-  pub entry_short : length run - at < 6 → entry_at run at ≡ NoEntry
+  pub entry_short : length run - at < 6 → entry_at run at ≡ None
   unfolding entry_at
   entry_short h = rw (lt-ltb (length run - at) 6 h)
 
   pub entry_cut : (n : ℕ) → n ≡ le_number (read_span at 2 run) → 6 ≤ length run - at → length run - at - 6 < n
-      → entry_at run at ≡ NoEntry
+      → entry_at run at ≡ None
   unfolding entry_at
   entry_cut n e h k = rw (le-ltb (length run - at) 6 h, ← e, lt-ltb (length run - at - 6) n k)
 
   pub entry-long : (n m : ℕ) → n ≡ le_number (read_span at 2 run) → m ≡ le_number (read_span (at + 2 + n) 4 run)
-      → 6 ≤ length run - at → n ≤ length run - at - 6 → length run - at - 6 - n < m → entry_at run at ≡ NoEntry
+      → 6 ≤ length run - at → n ≤ length run - at - 6 → length run - at - 6 - n < m → entry_at run at ≡ None
   unfolding entry_at
   entry-long n m e f h k l =
       rw (
@@ -43,7 +42,7 @@ module _ (run : List ℕ) (at : ℕ) where
 
   pub entry_whole : (n m : ℕ) → n ≡ le_number (read_span at 2 run) → m ≡ le_number (read_span (at + 2 + n) 4 run)
       → 6 ≤ length run - at → n ≤ length run - at - 6 → m ≤ length run - at - 6 - n
-      → entry_at run at ≡ Whole (at + 2 + n) (at + 2 + n + 4) (at + 2 + n + 4 + m)
+      → entry_at run at ≡ whole (at + 2 + n) (at + 2 + n + 4) (at + 2 + n + 4 + m)
   unfolding entry_at
   entry_whole n m e f h k l =
       rw (
@@ -56,7 +55,7 @@ module _ (run : List ℕ) (at : ℕ) where
 
   -- ---- a turn
 
-  pub entries_none : (n : ℕ) → entry_at run at ≡ NoEntry → entries_from n run at ≡ met [] at
+  pub entries_none : (n : ℕ) → entry_at run at ≡ None → entries_from n run at ≡ met [] at
   unfolding entries_from
   entries_none zero e = refl
   entries_none (suc n) e = ap (λ (x : Next). on_next x run at (entries_from n run)) e
@@ -64,7 +63,7 @@ module _ (run : List ℕ) (at : ℕ) where
   pub entries-end : (n : ℕ) → length run ≤ at → entries_from n run at ≡ met [] at
   entries-end n h = entries_none n (entry_short (omega arith))
 
-  pub entries-whole : (n nameEnd from to : ℕ) → 0 < n → entry_at run at ≡ Whole nameEnd from to
+  pub entries-whole : (n nameEnd from to : ℕ) → 0 < n → entry_at run at ≡ whole nameEnd from to
       → entries_from n run at
       ≡ in_front (entry (read_span (at + 2) (nameEnd - (at + 2)) run) (read_span from (to - from) run))
       (entries_from (n - 1) run to)
@@ -73,12 +72,7 @@ module _ (run : List ℕ) (at : ℕ) where
   entries-whole (suc n) nameEnd from to h e =
       let one : n ≡ suc n - 1 = omega arith in
       ap (λ (x : Next). on_next x run at (entries_from n run)) e
-      ∙ ap (λ (k : ℕ). on_next (Whole nameEnd from to) run at (entries_from k run)) one
-
--- an entry that the bytes suffice for lies inside
-pub whole-inside : (len at n m : ℕ) → at ≤ len → 6 ≤ len - at → n ≤ len - at - 6 → m ≤ len - at - 6 - n
-    → Inside len at (Whole (at + 2 + n) (at + 2 + n + 4) (at + 2 + n + 4 + m))
-whole-inside len at n m h i j k = (omega arith, (omega arith, (omega arith, omega arith)))
+      ∙ ap (λ (k : ℕ). on_next (whole nameEnd from to) run at (entries_from k run)) one
 
 -- ---- what is written
 
@@ -125,7 +119,7 @@ read_there_lem run rest more at n d l = rw d (take_at rest more n l)
 -- an entry that stands at a place, with the rest behind it
 record Stands (run : List ℕ) (at : ℕ) (e : Entry) (rest : List ℕ) : Type 0 where
   whole : entry_at run at
-      ≡ Whole (at + 2 + length e.name) (at + 2 + length e.name + 4)
+      ≡ whole (at + 2 + length e.name) (at + 2 + length e.name + 4)
       (at + 2 + length e.name + 4 + length e.bytes)
   its_name : read_span (at + 2) (length e.name) run ≡ e.name
   its_bytes : read_span (at + 2 + length e.name + 4) (length e.bytes) run ≡ e.bytes

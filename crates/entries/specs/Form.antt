@@ -1,12 +1,11 @@
 -- Appends one behind the other in a run of bytes: document 02, Eleven, "for each accepted append, name length (2 bytes,
 -- little-endian), name, byte length (4), bytes, in order of arrival". A script has the same form.
-use Rattle.std.specs.Prelude.{ℕ, zero, suc, ◌+◌, ◌-◌, ◌^◌, ◌≤◌, ◌<◌, cond, List, [], ◌∷◌, ◌++◌, ltb, length}
+use Rattle.std.specs.Prelude.{ℕ, zero, suc, ◌+◌, ◌-◌, ◌^◌, ◌≤◌, ◌<◌, cond, List, [], ◌∷◌, ◌++◌, ltb, length, Option, Some, None}
 use Rattle.std.proofs.Common.{lit<}
 use Rattle.limits.specs.Limits.{name_limit}
 use Rattle.numbers.specs.LittleEndian.{le_number, le_bytes}
 use Rattle.spans.specs.Span.{read_span}
-use Rattle.entries.specs.declared.Next.{Next}
-use Rattle.entries.specs.declared.Next.TheVariants.{Whole, NoEntry}
+use Rattle.entries.specs.declared.Entry.{Entry as Places}
 use Rattle.entries.specs.Log.{Entry, entry}
 
 -- ---- written
@@ -46,21 +45,28 @@ AllFit (e ∷ es) = Fits e × AllFit es
 
 -- ---- gone through from the front
 
--- RULES Y11, AH3. The entry at a place: where its name ends, where its bytes start, and where they end; or no whole
--- entry is there
+-- RULES Y11, AH3. What may be met at a place: an entry's places, where its name ends, where its bytes start, and where
+-- they end; or no whole entry is there
+abbrev pub Next : Type 0
+Next = Option Places
+
+abbrev pub whole : ℕ → ℕ → ℕ → Next
+whole nameEnd from to = Some (record { name_end = nameEnd; from = from; to = to })
+
+-- RULES Y11, AH3. The entry at a place
 unfoldable pub entry_at : List ℕ → ℕ → Next
 unfolding le_number read_span
 entry_at run at =
     let n : ℕ = le_number (read_span at 2 run) in
     let m : ℕ = le_number (read_span (at + 2 + n) 4 run) in
-    cond (ltb (length run - at) 6) NoEntry
-    (cond (ltb (length run - at - 6) n) NoEntry
-    (cond (ltb (length run - at - 6 - n) m) NoEntry (Whole (at + 2 + n) (at + 2 + n + 4) (at + 2 + n + 4 + m))))
+    cond (ltb (length run - at) 6) None
+    (cond (ltb (length run - at - 6) n) None
+    (cond (ltb (length run - at - 6 - n) m) None (whole (at + 2 + n) (at + 2 + n + 4) (at + 2 + n + 4 + m))))
 
 -- RULES Y11, AH3. An entry's places lie in a run of so many bytes
 abbrev pub Inside : ℕ → ℕ → Next → Type 0
-Inside len at (Whole nameEnd from to) = (at + 2 ≤ nameEnd) × ((nameEnd ≤ from) × ((from ≤ to) × (to ≤ len)))
-Inside len at NoEntry = Unit {0}
+Inside len at (Some e) = (at + 2 ≤ e.name_end) × ((e.name_end ≤ e.from) × ((e.from ≤ e.to) × (e.to ≤ len)))
+Inside len at None = Unit {0}
 
 -- RULES Y11, AH3. Whole entries as far as they follow one another, and the place behind the last
 pub record Met : Type 0 where
@@ -77,9 +83,9 @@ in_front e m = met (e ∷ m.entries) m.end
 
 -- RULES Y11, AH3.
 abbrev pub on_next : Next → List ℕ → ℕ → (ℕ → Met) → Met
-on_next (Whole nameEnd from to) run at rest =
-    in_front (entry (read_span (at + 2) (nameEnd - (at + 2)) run) (read_span from (to - from) run)) (rest to)
-on_next NoEntry run at rest = met [] at
+on_next (Some e) run at rest =
+    in_front (entry (read_span (at + 2) (e.name_end - (at + 2)) run) (read_span e.from (e.to - e.from) run)) (rest e.to)
+on_next None run at rest = met [] at
 
 -- RULES Y11, AH3. At most n entries from a place on
 unfoldable pub entries_from : ℕ → List ℕ → ℕ → Met

@@ -16,35 +16,38 @@ ghost use Rattle.entries.specs.Form.{encoded, entry_size, Fits, entry_at, Inside
 // The most bytes that an entry's four length bytes tell.
 pub const BYTE_LIMIT: usize = 4294967295;
 
-// The entry at a place of a run: where its name ends, where its bytes start and where they end; or no whole entry is
-// there.
-#[derive(Clone, Copy)]
-pub enum Next {
-    Whole(usize, usize, usize),
-    NoEntry,
+// An entry's places in its run: where its name ends, where its bytes start and where they end. Its name starts two bytes
+// behind its own place.
+#[derive(Clone, Copy, Debug, PartialEq, Eq)]
+pub struct Entry {
+    pub name_end: usize,
+    pub from: usize,
+    pub to: usize,
 }
 
-// The entry at a place.
-pub fn entry_at(run: &[u8], at: usize) -> Next
+// The entry at a place, if a whole one is there.
+#[tactic(auto, unfolding(crate::specs::Form::entry_at))]
+pub fn entry_at(run: &[u8], at: usize) -> Option<Entry>
     requires { at ≤ length run.now }
     ensures entry { result ≡ entry_at run.now at }
     ensures inside { Inside (length run.now) at result }
 {
     let left = run.len() - at;
     if left < 6 {
-        return Next::NoEntry;
+        return None;
     }
     let n = spans::get_u16(run, at) as usize;
     if left - 6 < n {
-        return Next::NoEntry;
+        return None;
     }
     let m = spans::get_u32(run, at + 2 + n) as usize;
     if left - 6 - n < m {
-        return Next::NoEntry;
+        return None;
     }
     let name_end = at + 2 + n;
-    let bytes = name_end + 4;
-    Next::Whole(name_end, bytes, bytes + m)
+    let from = name_end + 4;
+    let to = from + m;
+    Some(Entry { name_end, from, to })
 }
 
 // Writes an entry at a place.

@@ -9,6 +9,10 @@ use lib.Dec.{leb, ltb, eqb}
 use lib.ListN.{length, replicate}
 use borrow.Author.Tests.{lt-ltb, le-ltb, leb-true, leb-false, eqb-true, eqb-false}
 use Rattle.limits.specs.Limits.{page_taken, name_limit, name_limit_for, record_extra, each_size}
+use Rattle.std.specs.Prelude.{Err}
+use Rattle.limits.specs.Refusals.{number_of as number_for}
+use Rattle.limits.specs.declared.Refusal.{Refusal}
+use Rattle.limits.specs.declared.Refusal.TheVariants.{NameTooLong, Nameless}
 use Rattle.memory_arena.specs.declared.Arena.{Arena}
 use Rattle.memory_arena.specs.declared.Allocated.{Allocated}
 use Rattle.memory_arena.specs.declared.Allocated.TheVariants.{At, NoRoom, Refused}
@@ -38,8 +42,8 @@ use Rattle.history.proofs.Demand.{demand_3}
 use Rattle.flat_store.specs.Calls.{out, Held, stands, refuses, held_by, held_of, lookup_by, length_by, read_by, has_room}
 use Rattle.flat_store.specs.Calls.{append_of as flat_append_of, lookup_of as flat_lookup_of, length_of as flat_length_of}
 use Rattle.flat_store.specs.Calls.{read_of as flat_read_of}
-use Rattle.flat_store.specs.declared.Appended.TheVariants.{Declined}
-use Rattle.flat_store.specs.Said.{said_lookup as flat_said_lookup, said_answer as flat_said_answer}
+use Rattle.flat_store.specs.Said.{said_lookup as flat_said_lookup, said_length as flat_said_length}
+use Rattle.flat_store.specs.Said.{said_read as flat_said_read}
 use Rattle.flat_store.specs.History.{Flat, flat, play as flat_play, log_of as flat_log, Holds, held_due, due as flat_due}
 use Rattle.flat_store.specs.History.{number_of as flat_number_of}
 use Rattle.flat_store.specs.Promises.{FlatDemand3}
@@ -56,9 +60,9 @@ module _ (w : World) (f : Flat) (name : List ℕ) where
   -- what the store would say of what the flat store holds
   record Says (h : Held) : Type 0 where
     looked_up : standing_only (lookup_of w.state w.memory name) ≡ flat_said_lookup (lookup_by h)
-    measured : said_answer (length_of w.state w.memory name) ≡ flat_said_answer (length_by h)
+    measured : said_answer (length_of w.state w.memory name) ≡ flat_said_length (length_by h)
     read : (output : List ℕ)
-        → said_answer (read_of w.state w.memory name output).answer ≡ flat_said_answer (read_by h output).answer
+        → said_answer (read_of w.state w.memory name output).answer ≡ flat_said_read (read_by h output).answer
     written : (output : List ℕ) → (read_of w.state w.memory name output).output ≡ (read_by h output).output
 
   says-alike : (h : Held) → Says h → held_of f.buffer f.used name ≡ h
@@ -67,8 +71,8 @@ module _ (w : World) (f : Flat) (name : List ℕ) where
   unfolding flat_lookup_of flat_length_of flat_read_of
   says-alike h S e appended = record {
     looked_up = S.looked_up ∙ sym (ap (λ (x : Held). flat_said_lookup (lookup_by x)) e);
-    measured = S.measured ∙ sym (ap (λ (x : Held). flat_said_answer (length_by x)) e);
-    read = λ output. S.read output ∙ sym (ap (λ (x : Held). flat_said_answer (read_by x output).answer) e);
+    measured = S.measured ∙ sym (ap (λ (x : Held). flat_said_length (length_by x)) e);
+    read = λ output. S.read output ∙ sym (ap (λ (x : Held). flat_said_read (read_by x output).answer) e);
     written = λ output. S.written output ∙ sym (ap (λ (x : Held). (read_by x output).output) e);
     appended = appended;
   }
@@ -84,7 +88,7 @@ module _ (w : World) (f : Flat) (name : List ℕ) where
     where
       reads : (output : List ℕ) (t : Bool) → leb (length bs) (length output) ≡ t
           → (said_answer (read_of w.state w.memory name output).answer
-          ≡ flat_said_answer (read_by (stands bs) output).answer)
+          ≡ flat_said_read (read_by (stands bs) output).answer)
           × ((read_of w.state w.memory name output).output ≡ (read_by (stands bs) output).output)
       reads output true e =
           let q = R.read output (leb-true _ _ e) in
@@ -107,7 +111,7 @@ module _ (w : World) (f : Flat) (name : List ℕ) where
   abbrev through : Lookup → List ℕ → Read
   through x output = on_lookup_read x (λ at. read_at w.state w.memory at output) output
 
-  says_3 : lookup_of w.state w.memory name ≡ Failed 3 → Says (refuses 3)
+  says_3 : lookup_of w.state w.memory name ≡ Failed 3 → Says (refuses NameTooLong)
   unfolding read_by length_of read_of
   says_3 e = record {
     looked_up = ap standing_only e;
@@ -249,16 +253,16 @@ module _ (capacity seed size : ℕ) (table keys lists : List ℕ) (w : World)
             ∙ flat-named (length lent) (flat_log tries (flat lent 0)) name bytes)
 
         go : (t : Bool) → leb (length name) name_limit ≡ t
-            → Says v f name (cond t (held_by (joined name calls w)) (refuses 3))
+            → Says v f name (cond t (held_by (joined name calls w)) (refuses NameTooLong))
         go true e = says-by v f name (joined name calls w) (D.reads_back name (within (leb-true _ _ e)))
         go false e = says_3 v f name (D.long_never name (over (leb-false _ _ e))).1
 
     -- an append that is due a number is refused with it, and the flat store's too
-    both_refuse : (n : ℕ) → (n ≡ 0 → ⊥) → (name bytes : List ℕ)
-        → due v.state v.memory name (joined name calls w) (length bytes) ≡ n
-        → flat_append_of f.buffer f.used name bytes ≡ out (Declined n) f.buffer → BothRefuse n v f name bytes
+    both_refuse : (r : Refusal) → (number_for r ≡ 0 → ⊥) → (name bytes : List ℕ)
+        → due v.state v.memory name (joined name calls w) (length bytes) ≡ number_for r
+        → flat_append_of f.buffer f.used name bytes ≡ out (Err r) f.buffer → BothRefuse r v f name bytes
     unfolding v
-    both_refuse n positive name bytes e q =
+    both_refuse r positive name bytes e q =
         ((subst (AnswersDue v name bytes) e (D.refusals_exact name bytes)).refused positive, q)
 
     inside : f.used ≤ length f.buffer
@@ -275,7 +279,7 @@ module _ (capacity seed size : ℕ) (table keys lists : List ℕ) (w : World)
         held_3 f.buffer f.used name inside k,
       );
       too_long_appended = λ name bytes k.
-          both_refuse 3 (λ (z : 3 ≡ 0). omega arith) name bytes
+          both_refuse NameTooLong (λ (z : 3 ≡ 0). omega arith) name bytes
           (due_3 v name (joined name calls w) (length bytes) (omega (arith, limit_then, k)))
           (append_3 f.buffer f.used name bytes inside k);
       nameless = (
@@ -283,7 +287,7 @@ module _ (capacity seed size : ℕ) (table keys lists : List ℕ) (w : World)
         held-nameless f.buffer f.used [] inside (omega arith),
       );
       nameless_appended = λ bytes.
-          both_refuse 13 (λ (z : 13 ≡ 0). omega arith) [] bytes (due_13 v (joined [] calls w) (length bytes))
+          both_refuse Nameless (λ (z : 13 ≡ 0). omega arith) [] bytes (due_13 v (joined [] calls w) (length bytes))
           (append_13 f.buffer f.used [] bytes inside (omega arith));
     }
 

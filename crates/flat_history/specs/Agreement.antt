@@ -3,6 +3,7 @@
 -- buffer.
 use Rattle.std.specs.Prelude.{ℕ, ◌<◌, ◌≡◌, List, [], length}
 use Rattle.limits.specs.Limits.{name_limit}
+use Rattle.limits.specs.declared.Refusal.TheVariants.{NameTooLong, Nameless}
 use Rattle.entries.specs.Log.{Entry}
 use Rattle.store_look.specs.declared.Lookup.TheVariants.{Failed}
 use Rattle.store_look.specs.Look.{lookup_of}
@@ -34,14 +35,14 @@ pub record SameRecord (w : World) (calls : List Call) (lent : List ℕ) (tries :
   -- 3 is what they say of a name over the limit, in every call,
   pub too_long : (name : List ℕ) → name_limit < length name
       → (lookup_of (play calls w).state (play calls w).memory name ≡ Failed 3)
-      × (held_of (flat_play tries (flat lent 0)).buffer (flat_play tries (flat lent 0)).used name ≡ refuses 3)
+      × (held_of (flat_play tries (flat lent 0)).buffer (flat_play tries (flat lent 0)).used name ≡ refuses NameTooLong)
   pub too_long_appended : (name bytes : List ℕ) → name_limit < length name
-      → BothRefuse 3 (play calls w) (flat_play tries (flat lent 0)) name bytes
+      → BothRefuse NameTooLong (play calls w) (flat_play tries (flat lent 0)) name bytes
   -- and of the empty name absent, and 13 in appends
   pub nameless : ReadsAbsent (play calls w) []
       × (held_of (flat_play tries (flat lent 0)).buffer (flat_play tries (flat lent 0)).used [] ≡ absent)
   pub nameless_appended : (bytes : List ℕ)
-      → BothRefuse 13 (play calls w) (flat_play tries (flat lent 0)) [] bytes
+      → BothRefuse Nameless (play calls w) (flat_play tries (flat lent 0)) [] bytes
 
 -- RULES AH9. "Page sizes above 65,536": there a store's longest name is the flat store's
 abbrev pub WidePages : World → Type 0

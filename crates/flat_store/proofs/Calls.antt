@@ -9,29 +9,21 @@ use lib.Dec.{leb, ltb, eqb}
 use lib.ListN.{length}
 use borrow.Author.Tests.{lt-ltb, le-ltb, lt-leb, le-leb, leb-true, ltb-true}
 use Rattle.limits.specs.Limits.{name_limit}
-use Rattle.limits.specs.Refusals.{permitted, flat_looking_up, flat_measuring, flat_reading}
+use Rattle.limits.specs.Refusals.{permitted, flat_reading}
 use Rattle.numbers.proofs.Tests.{both}
 use Rattle.spans.specs.Span.{read_span, overwrite}
 use Rattle.entries.specs.Log.{entry, joined_in}
 use Rattle.entries.specs.Form.{byte_limit, encoded, entry_size, Met, entries_of}
-use Rattle.flat_store.specs.declared.Appended.TheVariants.{Accepted, Declined}
-use Rattle.flat_store.specs.declared.Answer.TheVariants.{Reading, TooShort}
+use Rattle.std.specs.Prelude.{Some, Ok, Err}
+use Rattle.limits.specs.declared.Refusal.TheVariants.{NotWhole, NameTooLong, Damaged, Nameless, BufferFull}
+use Rattle.flat_store.specs.declared.NotRead.TheVariants.{TooShort}
 use Rattle.flat_store.specs.Calls.{Out, out, has_room, append_of, Held, stands, absent, refuses, held_by, held_in}
-use Rattle.flat_store.specs.Calls.{held_of, lookup_by, length_by, reading, read_by, lookup_of, length_of, read_of}
-use Rattle.flat_store.specs.Said.{said_lookup, said_answer}
+use Rattle.flat_store.specs.Calls.{held_of, reading, read_by, read_of}
+use Rattle.flat_store.specs.Said.{said_read}
 
 -- ---- room
 
 module _ (len used n m : ℕ) where
-  pub room-bytes : byte_limit < m → false ≡ has_room len used n m
-  room-bytes h = rw (lt-leb m byte_limit h)
-
-  pub room_none : m ≤ byte_limit → len < used + (n + m + 6) → false ≡ has_room len used n m
-  room_none h k = rw (le-leb m byte_limit h, lt-leb (used + (n + m + 6)) len k)
-
-  pub room_some : m ≤ byte_limit → used + (n + m + 6) ≤ len → true ≡ has_room len used n m
-  room_some h k = rw (le-leb m byte_limit h, le-leb (used + (n + m + 6)) len k)
-
   pub room_facts : has_room len used n m ≡ true → (m ≤ byte_limit) × (used + (n + m + 6) ≤ len)
   room_facts e =
       let p = both (leb m byte_limit) (leb (used + (n + m + 6)) len) e in (leb-true _ _ p.0, leb-true _ _ p.1)
@@ -39,26 +31,15 @@ module _ (len used n m : ℕ) where
 -- ---- an append
 
 module _ (buffer : List ℕ) (used : ℕ) (name bytes : List ℕ) where
-  pub append_2 : length buffer < used → append_of buffer used name bytes ≡ out (Declined 2) buffer
-  unfolding append_of
-  append_2 h = rw (lt-leb used (length buffer) h)
-
   pub append_3 : used ≤ length buffer → name_limit < length name
-      → append_of buffer used name bytes ≡ out (Declined 3) buffer
+      → append_of buffer used name bytes ≡ out (Err NameTooLong) buffer
   unfolding append_of
   append_3 h k = rw (le-leb used (length buffer) h, lt-leb (length name) name_limit k)
 
-  pub append_13 : used ≤ length buffer → length name ≤ 0 → append_of buffer used name bytes ≡ out (Declined 13) buffer
+  pub append_13 : used ≤ length buffer → length name ≤ 0 → append_of buffer used name bytes ≡ out (Err Nameless) buffer
   unfolding append_of
   append_13 h k =
       rw (le-leb used (length buffer) h, le-leb (length name) name_limit (omega arith), le-ltb 0 (length name) k)
-
-  pub append_14 : used ≤ length buffer → length name ≤ name_limit → 0 < length name
-      → has_room (length buffer) used (length name) (length bytes) ≡ false
-      → append_of buffer used name bytes ≡ out (Declined 14) buffer
-  unfolding append_of
-  append_14 h k l r =
-      rw (le-leb used (length buffer) h, le-leb (length name) name_limit k, lt-ltb 0 (length name) l, r)
 
   -- where all tests hold
   pub record Taken : Type 0 where
@@ -67,21 +48,10 @@ module _ (buffer : List ℕ) (used : ℕ) (name bytes : List ℕ) where
     pub named : 0 < length name
     pub room : has_room (length buffer) used (length name) (length bytes) ≡ true
 
-  pub append-taken : Taken → append_of buffer used name bytes
-      ≡ out (Accepted (used + entry_size name bytes)) (overwrite used (encoded (entry name bytes)) buffer)
-  unfolding append_of
-  append-taken T =
-      rw (
-        le-leb used (length buffer) T.inside,
-        le-leb (length name) name_limit T.short,
-        lt-ltb 0 (length name) T.named,
-        T.room,
-      )
-
   -- what holds of each outcome holds of the append
-  pub append_any : (P : Out → Type 0) → P (out (Declined 2) buffer) → P (out (Declined 3) buffer)
-      → P (out (Declined 13) buffer) → P (out (Declined 14) buffer)
-      → (Taken → P (out (Accepted (used + entry_size name bytes)) (overwrite used (encoded (entry name bytes)) buffer)))
+  pub append_any : (P : Out → Type 0) → P (out (Err NotWhole) buffer) → P (out (Err NameTooLong) buffer)
+      → P (out (Err Nameless) buffer) → P (out (Err BufferFull) buffer)
+      → (Taken → P (out (Ok (used + entry_size name bytes)) (overwrite used (encoded (entry name bytes)) buffer)))
       → P (append_of buffer used name bytes)
   unfolding append_of
   append_any P p2 p3 p13 p14 p =
@@ -91,8 +61,8 @@ module _ (buffer : List ℕ) (used : ℕ) (name bytes : List ℕ) where
       go : (a b c d : Bool) → leb used (length buffer) ≡ a → leb (length name) name_limit ≡ b → ltb 0 (length name) ≡ c
           → has_room (length buffer) used (length name) (length bytes) ≡ d
           → P (cond a (cond b (cond c (cond d
-          (out (Accepted (used + entry_size name bytes)) (overwrite used (encoded (entry name bytes)) buffer))
-          (out (Declined 14) buffer)) (out (Declined 13) buffer)) (out (Declined 3) buffer)) (out (Declined 2) buffer))
+          (out (Ok (used + entry_size name bytes)) (overwrite used (encoded (entry name bytes)) buffer))
+          (out (Err BufferFull) buffer)) (out (Err Nameless) buffer)) (out (Err NameTooLong) buffer)) (out (Err NotWhole) buffer))
       go true true true true x y z r =
           p (record { inside = leb-true _ _ x; short = leb-true _ _ y; named = ltb-true _ _ z; room = r })
       go true true true false x y z r = p14
@@ -103,11 +73,7 @@ module _ (buffer : List ℕ) (used : ℕ) (name bytes : List ℕ) where
 -- ---- what is held
 
 module _ (buffer : List ℕ) (used : ℕ) (name : List ℕ) where
-  pub held_2 : length buffer < used → held_of buffer used name ≡ refuses 2
-  unfolding held_of
-  held_2 h = rw (lt-leb used (length buffer) h)
-
-  pub held_3 : used ≤ length buffer → name_limit < length name → held_of buffer used name ≡ refuses 3
+  pub held_3 : used ≤ length buffer → name_limit < length name → held_of buffer used name ≡ refuses NameTooLong
   unfolding held_of
   held_3 h k = rw (le-leb used (length buffer) h, lt-leb (length name) name_limit k)
 
@@ -127,8 +93,8 @@ module _ (buffer : List ℕ) (used : ℕ) (name : List ℕ) where
     pub joined : joined_in name (entries_of (read_span 0 used buffer)).entries none ≡ some bs
 
   -- what holds of each outcome holds of what is held
-  pub held_any : (P : Held → Type 0) → ((bs : List ℕ) → Stood bs → P (stands bs)) → P absent → P (refuses 2)
-      → P (refuses 3) → P (refuses 4) → P (held_of buffer used name)
+  pub held_any : (P : Held → Type 0) → ((bs : List ℕ) → Stood bs → P (stands bs)) → P absent → P (refuses NotWhole)
+      → P (refuses NameTooLong) → P (refuses Damaged) → P (held_of buffer used name)
   unfolding held_of
   held_any P ps pa p2 p3 p4 =
       go (leb used (length buffer)) (leb (length name) name_limit) (ltb 0 (length name)) refl
@@ -140,37 +106,27 @@ module _ (buffer : List ℕ) (used : ℕ) (name : List ℕ) where
       come none e h = pa
       come (some bs) e h = ps bs (record { inside = h; joined = e })
 
-      ended : (b : Bool) → used ≤ length buffer → P (cond b (held_by (joined_in name met.entries none)) (refuses 4))
+      ended : (b : Bool) → used ≤ length buffer → P (cond b (held_by (joined_in name met.entries none)) (refuses Damaged))
       ended true h = come (joined_in name met.entries none) refl h
       ended false h = p4
 
       go : (a b c : Bool) → leb used (length buffer) ≡ a
-          → P (cond a (cond b (cond c (held_in name used met) absent) (refuses 3)) (refuses 2))
+          → P (cond a (cond b (cond c (held_in name used met) absent) (refuses NameTooLong)) (refuses NotWhole))
       go true true true x = ended (eqb met.end used) (leb-true _ _ x)
       go true true false x = pa
       go true false c x = p3
       go false b c x = p2
 
-  -- ---- so each call's numbers are those that are listed for it
+  -- ---- so a reading's numbers are those that are listed for it
 
-  pub fair-lookup : permitted flat_looking_up (said_lookup (lookup_of buffer used name)) ≡ true
-  unfolding lookup_of
-  fair-lookup =
-      held_any (λ h. permitted flat_looking_up (said_lookup (lookup_by h)) ≡ true) (λ bs S. refl) refl refl refl refl
-
-  pub fair-length : permitted flat_measuring (said_answer (length_of buffer used name)) ≡ true
-  unfolding length_of
-  fair-length =
-      held_any (λ h. permitted flat_measuring (said_answer (length_by h)) ≡ true) (λ bs S. refl) refl refl refl refl
-
-  pub fair-read : (output : List ℕ) → permitted flat_reading (said_answer (read_of buffer used name output).answer) ≡ true
+  pub fair-read : (output : List ℕ) → permitted flat_reading (said_read (read_of buffer used name output).answer) ≡ true
   unfolding read_of read_by
   fair-read output =
-      held_any (λ h. permitted flat_reading (said_answer (read_by h output).answer) ≡ true)
+      held_any (λ h. permitted flat_reading (said_read (read_by h output).answer) ≡ true)
       (λ bs S. go bs (leb (length bs) (length output))) refl refl refl refl
     where
       go : (bs : List ℕ) (b : Bool)
-          → permitted flat_reading (said_answer (cond b (reading (Reading (length bs)) (overwrite 0 bs output))
-          (reading (TooShort (length bs)) output)).answer) ≡ true
+          → permitted flat_reading (said_read (cond b (reading (Ok (Some (length bs))) (overwrite 0 bs output))
+          (reading (Err (TooShort (length bs))) output)).answer) ≡ true
       go bs true = refl
       go bs false = refl

@@ -17,7 +17,8 @@ use Rattle.fastcmp.proofs.Laws.{equal_long}
 use Rattle.entries.specs.Log.{Entry, joined_on, joined_in}
 use Rattle.entries.specs.Form.{encoded, entry_size, encoded_all, entries_of}
 use Rattle.entries.proofs.Laws.{length-encoded, encoded-more, all_more, read_back}
-use Rattle.flat_store.specs.declared.Appended.TheVariants.{Accepted, Declined}
+use Rattle.std.specs.Prelude.{Ok, Err}
+use Rattle.limits.specs.declared.Refusal.TheVariants.{NotWhole, NameTooLong, Nameless, BufferFull}
 use Rattle.flat_store.specs.Calls.{Out, out, has_room, append_of, held_by, held_in, held_of}
 use Rattle.flat_store.specs.Said.{said_appended}
 use Rattle.flat_store.specs.History.{Flat, flat, is_accepted, left, after, play, logged, log_of, AllNamed}
@@ -112,9 +113,9 @@ module _ (lent : List ℕ) (f : Flat) (log : List Entry) (H : Holds lent f log) 
       tree : Bool → Bool → Bool → Bool → Out
       tree a b c d =
           cond a (cond b (cond c (cond d
-          (out (Accepted (f.used + entry_size e.name e.bytes)) (overwrite f.used (encoded e) f.buffer))
-          (out (Declined 14) f.buffer)) (out (Declined 13) f.buffer)) (out (Declined 3) f.buffer))
-          (out (Declined 2) f.buffer)
+          (out (Ok (f.used + entry_size e.name e.bytes)) (overwrite f.used (encoded e) f.buffer))
+          (out (Err BufferFull) f.buffer)) (out (Err Nameless) f.buffer)) (out (Err NameTooLong) f.buffer))
+          (out (Err NotWhole) f.buffer)
 
       go : (b c d : Bool)
           → number_in (said_appended (tree true b c d).answer) ≡ cond b (cond c (cond d 0 14) 13) 3

@@ -10,10 +10,10 @@ use borrow.Author.Tests.{le-leb}
 use Rattle.limits.specs.Refusals.{one-outcome}
 use Rattle.spans.specs.Span.{overwrite}
 use Rattle.entries.specs.Log.{Entry}
-use Rattle.flat_store.specs.declared.Appended.TheVariants.{Declined}
-use Rattle.flat_store.specs.declared.Answer.{Answer}
-use Rattle.flat_store.specs.declared.Answer.TheVariants.{Absent, Length, Reading, TooShort, Refused}
-use Rattle.flat_store.specs.Calls.{out, append_of, Held, stands, absent, refuses, held_of, reading, read_by, read_of}
+use Rattle.std.specs.Prelude.{Some, None, Ok, Err}
+use Rattle.limits.specs.declared.Refusal.{Refusal}
+use Rattle.flat_store.specs.declared.NotRead.TheVariants.{TooShort, Refused}
+use Rattle.flat_store.specs.Calls.{Answer, out, append_of, Held, stands, absent, refuses, held_of, reading, read_by, read_of}
 use Rattle.flat_store.specs.History.{Flat, flat, play, log_of, Holds}
 use Rattle.flat_store.specs.Promises.{Promises, Settled, FlatDemand3}
 use Rattle.flat_store.proofs.Calls.{append_any}
@@ -22,20 +22,18 @@ use Rattle.flat_store.proofs.Kept.{refused_same}
 
 -- ---- on any buffer
 
-append_refused : (buffer : List ℕ) (used : ℕ) (name bytes : List ℕ) (n : ℕ)
-    → (append_of buffer used name bytes).answer ≡ Declined n → append_of buffer used name bytes ≡ out (Declined n) buffer
-append_refused buffer used name bytes n =
-    append_any buffer used name bytes (λ o. o.answer ≡ Declined n → o ≡ out (Declined n) buffer)
+append_refused : (buffer : List ℕ) (used : ℕ) (name bytes : List ℕ) (r : Refusal)
+    → (append_of buffer used name bytes).answer ≡ Err r → append_of buffer used name bytes ≡ out (Err r) buffer
+append_refused buffer used name bytes r =
+    append_any buffer used name bytes (λ o. o.answer ≡ Err r → o ≡ out (Err r) buffer)
     (ap (λ a. out a buffer)) (ap (λ a. out a buffer)) (ap (λ a. out a buffer)) (ap (λ a. out a buffer))
-    (λ T e. let z : ◌≡◌ {A = ℕ} 0 1 = cc in absurd (omega arith))
+    (λ T e. cc)
 
 -- an answer that isn't a reading leaves the output
 abbrev is_reading : Answer → Bool
-is_reading Absent = false
-is_reading (Length n) = false
-is_reading (Reading n) = true
-is_reading (TooShort n) = false
-is_reading (Refused n) = false
+is_reading (Ok None) = false
+is_reading (Ok (Some n)) = true
+is_reading (Err e) = false
 
 read_kept : (buffer : List ℕ) (used : ℕ) (name output : List ℕ) (r : Answer) → is_reading r ≡ false
     → (read_of buffer used name output).answer ≡ r → read_of buffer used name output ≡ reading r output
@@ -43,9 +41,9 @@ unfolding read_of read_by
 read_kept buffer used name output r k = go (held_of buffer used name)
   where
     split : (bs : List ℕ) (b : Bool)
-        → (cond b (reading (Reading (length bs)) (overwrite 0 bs output)) (reading (TooShort (length bs)) output)).answer
+        → (cond b (reading (Ok (Some (length bs))) (overwrite 0 bs output)) (reading (Err (TooShort (length bs))) output)).answer
         ≡ r
-        → cond b (reading (Reading (length bs)) (overwrite 0 bs output)) (reading (TooShort (length bs)) output)
+        → cond b (reading (Ok (Some (length bs))) (overwrite 0 bs output)) (reading (Err (TooShort (length bs))) output)
         ≡ reading r output
     split bs true e = absurd (false≢true (sym (ap is_reading e ∙ k)))
     split bs false e = ap (λ (a : Answer). reading a output) e
@@ -56,31 +54,31 @@ read_kept buffer used name output r k = go (held_of buffer used name)
     go (refuses n) e = ap (λ (a : Answer). reading a output) e
 
 read_enough : (buffer : List ℕ) (used : ℕ) (name short output : List ℕ) (n : ℕ)
-    → (read_of buffer used name short).answer ≡ TooShort n → n ≤ length output
-    → (read_of buffer used name output).answer ≡ Reading n
+    → (read_of buffer used name short).answer ≡ Err (TooShort n) → n ≤ length output
+    → (read_of buffer used name output).answer ≡ Ok (Some n)
 unfolding read_of read_by
 read_enough buffer used name short output n e h = go (held_of buffer used name) e
   where
     split : (bs : List ℕ) (b : Bool)
-        → (cond b (reading (Reading (length bs)) (overwrite 0 bs short)) (reading (TooShort (length bs)) short)).answer
-        ≡ TooShort n
-        → (read_by (stands bs) output).answer ≡ Reading n
-    split bs true e = let z : ◌≡◌ {A = ℕ} 0 1 = cc in absurd (omega arith)
+        → (cond b (reading (Ok (Some (length bs))) (overwrite 0 bs short)) (reading (Err (TooShort (length bs))) short)).answer
+        ≡ Err (TooShort n)
+        → (read_by (stands bs) output).answer ≡ Ok (Some n)
+    split bs true e = cc
     split bs false e =
         let size : length bs ≡ n = cc in
-        rw (le-leb (length bs) (length output) (omega arith)) (ap Reading size)
+        rw (le-leb (length bs) (length output) (omega arith)) (ap (λ (k : ℕ). Ok (Some k)) size)
 
-    go : (h : Held) → (read_by h short).answer ≡ TooShort n → (read_by h output).answer ≡ Reading n
+    go : (h : Held) → (read_by h short).answer ≡ Err (TooShort n) → (read_by h output).answer ≡ Ok (Some n)
     go (stands bs) e = split bs (leb (length bs) (length short)) e
-    go absent e = let z : ◌≡◌ {A = ℕ} 0 1 = cc in absurd (omega arith)
-    go (refuses m) e = let z : ◌≡◌ {A = ℕ} 0 1 = cc in absurd (omega arith)
+    go absent e = cc
+    go (refuses m) e = cc
 
 pub promises : Promises
 promises = record {
   append_refused = append_refused;
-  read_refused = λ buffer used name output n. read_kept buffer used name output (Refused n) refl;
-  read_absent = λ buffer used name output. read_kept buffer used name output Absent refl;
-  read_short = λ buffer used name output n. read_kept buffer used name output (TooShort n) refl;
+  read_refused = λ buffer used name output r. read_kept buffer used name output (Err (Refused r)) refl;
+  read_absent = λ buffer used name output. read_kept buffer used name output (Ok None) refl;
+  read_short = λ buffer used name output n. read_kept buffer used name output (Err (TooShort n)) refl;
   read_enough = read_enough;
 }
 

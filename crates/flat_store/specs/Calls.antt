@@ -1,18 +1,21 @@
 -- Document 02, Eleven: the calls. A refusal changes nothing.
-use Rattle.std.specs.Prelude.{ℕ, ◌+◌, Bool, cond, ◌&&◌, List, leb, ltb, eqb, length}
+use Rattle.std.specs.Prelude.{ℕ, ◌+◌, Bool, cond, ◌&&◌, List, leb, ltb, eqb, length, true, false, Some, None, Result, Ok, Err}
+use Rattle.std.specs.Prelude.{Option as Maybe}
 use Rattle.std.proofs.Math.Option.{Option, none, some}
+use Rattle.limits.specs.declared.Refusal.{Refusal}
+use Rattle.limits.specs.declared.Refusal.TheVariants.{NotWhole, NameTooLong, Damaged, Nameless, BufferFull}
 use Rattle.limits.specs.Limits.{name_limit}
 use Rattle.spans.specs.Span.{read_span, overwrite}
 use Rattle.entries.specs.Log.{entry, joined_in}
 use Rattle.entries.specs.Form.{byte_limit, encoded, entry_size, Met, entries_from, entries_of}
-use Rattle.flat_store.specs.declared.Appended.{Appended}
-use Rattle.flat_store.specs.declared.Appended.TheVariants.{Accepted, Declined}
-use Rattle.flat_store.specs.declared.Lookup.{Lookup}
-use Rattle.flat_store.specs.declared.Lookup.TheVariants.{Standing, Missing, Failed}
-use Rattle.flat_store.specs.declared.Answer.{Answer}
-use Rattle.flat_store.specs.declared.Answer.TheVariants.{Absent, Length, Reading, TooShort, Refused}
+use Rattle.flat_store.specs.declared.NotRead.{NotRead}
+use Rattle.flat_store.specs.declared.NotRead.TheVariants.{TooShort, Refused}
 
 -- ---- append: 2, 3, 13, 14; it goes through no entry
+
+-- RULES AH5. An append's answer: the used count then
+abbrev pub Appended : Type 0
+Appended = Result ℕ Refusal
 
 -- RULES AH5. The answer, and the lent buffer as the call leaves it
 pub record Out : Type 0 where
@@ -36,11 +39,11 @@ append_of buffer used name bytes =
     (cond (leb (length name) name_limit)
     (cond (ltb 0 (length name))
     (cond (has_room (length buffer) used (length name) (length bytes))
-    (out (Accepted (used + entry_size name bytes)) (overwrite used (encoded (entry name bytes)) buffer))
-    (out (Declined 14) buffer))
-    (out (Declined 13) buffer))
-    (out (Declined 3) buffer))
-    (out (Declined 2) buffer)
+    (out (Ok (used + entry_size name bytes)) (overwrite used (encoded (entry name bytes)) buffer))
+    (out (Err BufferFull) buffer))
+    (out (Err Nameless) buffer))
+    (out (Err NameTooLong) buffer))
+    (out (Err NotWhole) buffer)
 
 -- ---- lookup, length and reading: 2, 3, the empty name absent; then all entries are gone through
 
@@ -48,7 +51,7 @@ append_of buffer used name bytes =
 pub data Held : Type 0 where
   stands : List ℕ → Held
   absent : Held
-  refuses : ℕ → Held
+  refuses : Refusal → Held
 
 -- RULES AH6.
 abbrev pub held_by : Option (List ℕ) → Held
@@ -57,7 +60,7 @@ held_by (some bs) = stands bs
 
 -- RULES AH6. Entries that don't end where the used bytes end: one overruns them, which is 4, also behind a match
 abbrev pub held_in : List ℕ → ℕ → Met → Held
-held_in name used m = cond (eqb m.end used) (held_by (joined_in name m.entries none)) (refuses 4)
+held_in name used m = cond (eqb m.end used) (held_by (joined_in name m.entries none)) (refuses Damaged)
 
 -- RULES AH6.
 unfoldable pub held_of : List ℕ → ℕ → List ℕ → Held
@@ -66,20 +69,32 @@ held_of buffer used name =
     cond (leb used (length buffer))
     (cond (leb (length name) name_limit)
     (cond (ltb 0 (length name)) (held_in name used (entries_of (read_span 0 used buffer))) absent)
-    (refuses 3))
-    (refuses 2)
+    (refuses NameTooLong))
+    (refuses NotWhole)
+
+-- RULES AH6. A lookup's answer: whether the name stands
+abbrev pub Lookup : Type 0
+Lookup = Result Bool Refusal
 
 -- RULES AH6.
 abbrev pub lookup_by : Held → Lookup
-lookup_by (stands bs) = Standing
-lookup_by absent = Missing
-lookup_by (refuses n) = Failed n
+lookup_by (stands bs) = Ok true
+lookup_by absent = Ok false
+lookup_by (refuses r) = Err r
+
+-- RULES AH6. A length's answer: how many bytes, if the name stands
+abbrev pub Measured : Type 0
+Measured = Result (Maybe ℕ) Refusal
 
 -- RULES AH6.
-abbrev pub length_by : Held → Answer
-length_by (stands bs) = Length (length bs)
-length_by absent = Absent
-length_by (refuses n) = Refused n
+abbrev pub length_by : Held → Measured
+length_by (stands bs) = Ok (Some (length bs))
+length_by absent = Ok None
+length_by (refuses r) = Err r
+
+-- RULES AH6. A reading's answer: how many bytes were written, if the name stands
+abbrev pub Answer : Type 0
+Answer = Result (Maybe ℕ) NotRead
 
 -- RULES AH6. The answer, and the lent output as the call leaves it
 pub record Read : Type 0 where
@@ -95,10 +110,10 @@ reading r o = record { answer = r; output = o }
 unfoldable pub read_by : Held → List ℕ → Read
 unfolding overwrite
 read_by (stands bs) output =
-    cond (leb (length bs) (length output)) (reading (Reading (length bs)) (overwrite 0 bs output))
-    (reading (TooShort (length bs)) output)
-read_by absent output = reading Absent output
-read_by (refuses n) output = reading (Refused n) output
+    cond (leb (length bs) (length output)) (reading (Ok (Some (length bs))) (overwrite 0 bs output))
+    (reading (Err (TooShort (length bs))) output)
+read_by absent output = reading (Ok None) output
+read_by (refuses r) output = reading (Err (Refused r)) output
 
 -- RULES AH6.
 unfoldable pub lookup_of : List ℕ → ℕ → List ℕ → Lookup
@@ -106,7 +121,7 @@ unfolding held_of
 lookup_of buffer used name = lookup_by (held_of buffer used name)
 
 -- RULES AH6.
-unfoldable pub length_of : List ℕ → ℕ → List ℕ → Answer
+unfoldable pub length_of : List ℕ → ℕ → List ℕ → Measured
 unfolding held_of
 length_of buffer used name = length_by (held_of buffer used name)
 

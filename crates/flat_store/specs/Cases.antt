@@ -2,7 +2,7 @@
 use Rattle.std.specs.Prelude.{ℕ, ◌≡◌, refl, List, [], ◌∷◌, replicate}
 use Rattle.limits.specs.Refusals.{answered, refused, accepted, standing, absent, a_length, a_reading}
 use Rattle.flat_store.specs.Calls.{append_of, lookup_of, length_of, read_of}
-use Rattle.flat_store.specs.Said.{said_appended, said_lookup, said_answer}
+use Rattle.flat_store.specs.Said.{said_appended, said_lookup, said_length, said_read}
 
 -- lane A with bytes 1 2, lane B with none, lane A with byte 3
 abbrev run : List ℕ
@@ -36,18 +36,18 @@ pub said_damaged : (said_lookup (lookup_of run 23 lane_b) ≡ refused 4 [])
     × (said_lookup (lookup_of run 20 lane_b) ≡ refused 4 [])
     × (said_lookup (lookup_of run 18 lane_b) ≡ refused 4 [])
     × (said_lookup (lookup_of run 17 lane_b) ≡ refused 4 [])
-    × (said_answer (length_of run 10 lane_a) ≡ refused 4 [])
-    × (said_answer (read_of run 8 lane_a []).answer ≡ refused 4 [])
+    × (said_length (length_of run 10 lane_a) ≡ refused 4 [])
+    × (said_read (read_of run 8 lane_a []).answer ≡ refused 4 [])
 unfolding lookup_of length_of read_of
 said_damaged = (refl, refl, refl, refl, refl, refl)
 
 -- RULES AH10.
-pub said_answered : (said_answer (length_of run 24 lane_a) ≡ answered a_length (3 ∷ []))
-    × (said_answer (length_of run 24 lane_b) ≡ answered a_length (0 ∷ []))
-    × (said_answer (length_of run 24 lane_c) ≡ answered absent [])
-    × (said_answer (read_of run 24 lane_a (sevens 4)).answer ≡ answered a_reading (3 ∷ []))
+pub said_answered : (said_length (length_of run 24 lane_a) ≡ answered a_length (3 ∷ []))
+    × (said_length (length_of run 24 lane_b) ≡ answered a_length (0 ∷ []))
+    × (said_length (length_of run 24 lane_c) ≡ answered absent [])
+    × (said_read (read_of run 24 lane_a (sevens 4)).answer ≡ answered a_reading (3 ∷ []))
     × ((read_of run 24 lane_a (sevens 4)).output ≡ 1 ∷ 2 ∷ 3 ∷ 7 ∷ [])
-    × (said_answer (read_of run 24 lane_a (sevens 2)).answer ≡ refused 8 (3 ∷ []))
+    × (said_read (read_of run 24 lane_a (sevens 2)).answer ≡ refused 8 (3 ∷ []))
     × ((read_of run 24 lane_a (sevens 2)).output ≡ sevens 2)
 unfolding length_of read_of
 said_answered = (refl, refl, refl, refl, refl, refl, refl)

@@ -1,15 +1,14 @@
 -- A history of the flat store: appends on a lent buffer of which nothing is used at first, refused ones too. The other
 -- calls change nothing, so they may come between.
-use Rattle.std.specs.Prelude.{ℕ, ◌≤◌, ◌<◌, ◌≡◌, Bool, true, false, cond, List, [], ◌∷◌, ◌++◌, leb, ltb, length}
+use Rattle.std.specs.Prelude.{ℕ, ◌≤◌, ◌<◌, ◌≡◌, Bool, true, false, cond, List, [], ◌∷◌, ◌++◌, leb, ltb, length, Ok, Err}
 use Rattle.std.proofs.Math.Option.{Option}
 use Rattle.limits.specs.Limits.{name_limit}
 use Rattle.limits.specs.Refusals.{number_in}
 use Rattle.spans.specs.Span.{overwrite}
 use Rattle.entries.specs.Log.{Entry}
 use Rattle.entries.specs.Form.{encoded_all, AllFit}
-use Rattle.flat_store.specs.declared.Appended.{Appended}
-use Rattle.flat_store.specs.declared.Appended.TheVariants.{Accepted, Declined}
-use Rattle.flat_store.specs.Calls.{Out, has_room, append_of, Held, refuses, held_by}
+use Rattle.limits.specs.declared.Refusal.TheVariants.{NameTooLong}
+use Rattle.flat_store.specs.Calls.{Appended, Out, has_room, append_of, Held, refuses, held_by}
 use Rattle.flat_store.specs.Said.{said_appended}
 
 -- RULES AH7. The lent buffer, and how much of it is used
@@ -27,8 +26,8 @@ append_in f e = append_of f.buffer f.used e.name e.bytes
 
 -- RULES AH7.
 abbrev pub is_accepted : Appended → Bool
-is_accepted (Accepted used) = true
-is_accepted (Declined n) = false
+is_accepted (Ok used) = true
+is_accepted (Err r) = false
 
 -- RULES AH7.
 abbrev pub accepts : Flat → Entry → Bool
@@ -36,8 +35,8 @@ accepts f e = is_accepted (append_in f e).answer
 
 -- RULES AH7. The used count after an append: the one that it gives, or after a refusal the one handed in
 abbrev pub used_after : Appended → ℕ → ℕ
-used_after (Accepted now) used = now
-used_after (Declined n) used = used
+used_after (Ok now) used = now
+used_after (Err r) used = used
 
 -- RULES AH7.
 abbrev pub left : Out → ℕ → Flat
@@ -96,4 +95,4 @@ number_of f e = number_in (said_appended (append_in f e).answer)
 
 -- RULES AH8. What is due to be held of a name that the log comes to, or doesn't
 abbrev pub held_due : List ℕ → Option (List ℕ) → Held
-held_due name stood = cond (leb (length name) name_limit) (held_by stood) (refuses 3)
+held_due name stood = cond (leb (length name) name_limit) (held_by stood) (refuses NameTooLong)

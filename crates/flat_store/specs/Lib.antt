@@ -1,5 +1,4 @@
 pub mod Calls
-pub mod Found
 pub mod Said
 pub mod History
 pub mod Promises

@@ -1,13 +1,11 @@
 -- What the flat store promises beyond each call's own equation. Three records, each with its value in
 -- proofs/Promises.antt.
-use Rattle.std.specs.Prelude.{ℕ, ◌≤◌, ◌≡◌, ◌≢◌, List, ◌++◌, length}
+use Rattle.std.specs.Prelude.{ℕ, ◌≤◌, ◌≡◌, ◌≢◌, List, ◌++◌, length, Some, None, Ok, Err}
 use Rattle.std.proofs.Math.Option.{none}
 use Rattle.entries.specs.Log.{Entry, joined_in}
-use Rattle.flat_store.specs.declared.Appended.TheVariants.{Declined}
-use Rattle.flat_store.specs.declared.Lookup.{Lookup}
-use Rattle.flat_store.specs.declared.Answer.{Answer}
-use Rattle.flat_store.specs.declared.Answer.TheVariants.{Absent, Reading, TooShort, Refused}
-use Rattle.flat_store.specs.Calls.{Out, out, append_of, held_of, Read, reading, lookup_of, length_of, read_of}
+use Rattle.limits.specs.declared.Refusal.{Refusal}
+use Rattle.flat_store.specs.declared.NotRead.TheVariants.{TooShort, Refused}
+use Rattle.flat_store.specs.Calls.{Lookup, Measured, Out, out, append_of, held_of, Read, reading, lookup_of, length_of, read_of}
 use Rattle.flat_store.specs.History.{flat, after, play, log_of, Holds, due, number_of, held_due}
 
 -- ---- on any buffer, whatever it holds and whatever the used count
@@ -15,21 +13,22 @@ use Rattle.flat_store.specs.History.{flat, after, play, log_of, Holds, due, numb
 -- RULES AH5, AH6.
 pub record Promises : Type 0 where
   -- a refusal changes nothing
-  pub append_refused : (buffer : List ℕ) (used : ℕ) (name bytes : List ℕ) (n : ℕ)
-      → (append_of buffer used name bytes).answer ≡ Declined n
-      → append_of buffer used name bytes ≡ out (Declined n) buffer
-  pub read_refused : (buffer : List ℕ) (used : ℕ) (name output : List ℕ) (n : ℕ)
-      → (read_of buffer used name output).answer ≡ Refused n
-      → read_of buffer used name output ≡ reading (Refused n) output
+  pub append_refused : (buffer : List ℕ) (used : ℕ) (name bytes : List ℕ) (r : Refusal)
+      → (append_of buffer used name bytes).answer ≡ Err r
+      → append_of buffer used name bytes ≡ out (Err r) buffer
+  pub read_refused : (buffer : List ℕ) (used : ℕ) (name output : List ℕ) (r : Refusal)
+      → (read_of buffer used name output).answer ≡ Err (Refused r)
+      → read_of buffer used name output ≡ reading (Err (Refused r)) output
   pub read_absent : (buffer : List ℕ) (used : ℕ) (name output : List ℕ)
-      → (read_of buffer used name output).answer ≡ Absent → read_of buffer used name output ≡ reading Absent output
+      → (read_of buffer used name output).answer ≡ Ok None
+      → read_of buffer used name output ≡ reading (Ok None) output
   pub read_short : (buffer : List ℕ) (used : ℕ) (name output : List ℕ) (n : ℕ)
-      → (read_of buffer used name output).answer ≡ TooShort n
-      → read_of buffer used name output ≡ reading (TooShort n) output
+      → (read_of buffer used name output).answer ≡ Err (TooShort n)
+      → read_of buffer used name output ≡ reading (Err (TooShort n)) output
   -- and the length told with 8 is enough
   pub read_enough : (buffer : List ℕ) (used : ℕ) (name short output : List ℕ) (n : ℕ)
-      → (read_of buffer used name short).answer ≡ TooShort n → n ≤ length output
-      → (read_of buffer used name output).answer ≡ Reading n
+      → (read_of buffer used name short).answer ≡ Err (TooShort n) → n ≤ length output
+      → (read_of buffer used name output).answer ≡ Ok (Some n)
 
 -- ---- two outcomes that meet a call's contract are equal
 
@@ -39,7 +38,7 @@ pub record Settled : Type 0 where
       → x ≡ append_of buffer used name bytes → y ≡ append_of buffer used name bytes → x ≡ y
   pub lookup_settled : (buffer : List ℕ) (used : ℕ) (name : List ℕ) (x y : Lookup)
       → x ≡ lookup_of buffer used name → y ≡ lookup_of buffer used name → x ≡ y
-  pub length_settled : (buffer : List ℕ) (used : ℕ) (name : List ℕ) (x y : Answer)
+  pub length_settled : (buffer : List ℕ) (used : ℕ) (name : List ℕ) (x y : Measured)
       → x ≡ length_of buffer used name → y ≡ length_of buffer used name → x ≡ y
   pub read-settled : (buffer : List ℕ) (used : ℕ) (name output : List ℕ) (x y : Read)
       → x ≡ read_of buffer used name output → y ≡ read_of buffer used name output → x ≡ y

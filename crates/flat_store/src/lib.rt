@@ -10,35 +10,22 @@
 pub mod look;
 pub mod write;
 
-// An append's answer: the used count then, or a refusal's number, and nothing has changed.
-#[derive(Clone, Copy)]
-pub enum Appended {
-    Accepted(usize),
-    Declined(u32),
-}
+ghost use Rattle.std.specs.Prelude.{◌≡◌};
+ghost use Rattle.flat_store.specs.declared.NotRead.TheVariants.{Refused};
 
-// A lookup's answer.
-#[derive(Clone, Copy)]
-pub enum Lookup {
-    Standing,
-    Missing,
-    Failed(u32),
-}
+use limits::Refusal;
 
-// A length's or a reading's answer. TooShort is refusal 8, with the length; any other tells its number alone.
-#[derive(Clone, Copy)]
-pub enum Answer {
-    Absent,
-    Length(u64),
-    Reading(u64),
+// Why a reading refuses: the output is shorter than the lane (8, told with the lane's length), or as any call by name.
+#[derive(Clone, Copy, Debug, PartialEq, Eq)]
+pub enum NotRead {
     TooShort(u64),
-    Refused(u32),
+    Refused(Refusal),
 }
 
-// What the used entries have of a name: so many bytes, nothing, or a refusal's number.
-#[derive(Clone, Copy)]
-pub enum Found {
-    Bytes(u64),
-    Nothing,
-    Refusal(u32),
+impl From<Refusal> for NotRead {
+    ghost from_gives = { λ r e. e ≡ Refused r };
+
+    fn from(r: Refusal) -> NotRead {
+        NotRead::Refused(r)
+    }
 }

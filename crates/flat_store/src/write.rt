@@ -1,51 +1,40 @@
 // The append.
-ghost use Rattle.std.specs.Prelude.{◌≡◌, true, ◌≤◌};
+ghost use Rattle.std.specs.Prelude.{◌≡◌, true, ◌≤◌, length};
+ghost use Rattle.limits.specs.Limits.{name_limit};
 ghost use Rattle.limits.specs.Refusals.{flat_appending, permitted};
 ghost use Rattle.flat_store.specs.Calls.{out, has_room, append_of};
 ghost use Rattle.flat_store.specs.Said.{said_appended};
 
-use crate::Appended;
+use limits::Refusal;
 
-// Whether an entry of n name bytes and m bytes can follow the used ones. The lengths' sum may pass 64 bits, so room is
-// taken off instead.
-fn has_room(len: usize, used: usize, n: usize, m: usize) -> bool
-    requires { used ≤ len }
-    ensures { result ≡ has_room len used n m }
+// Whether an entry can follow the used ones.
+fn has_room(buffer: &[u8], used: usize, name: &[u8], bytes: &[u8]) -> bool
+    requires { (used ≤ length buffer.now) × (length name.now ≤ name_limit) }
+    ensures { result
+        ≡ has_room (length buffer.now) used (length name.now) (length bytes.now) }
 {
-    if entries::BYTE_LIMIT < m {
-        return false;
-    }
-    let room = len - used;
-    if room < 6 {
-        return false;
-    }
-    if room - 6 < n {
-        return false;
-    }
-    if room - 6 - n < m {
-        return false;
-    }
-    true
+    bytes.len() <= entries::BYTE_LIMIT && used + (name.len() + bytes.len() + 6) <= buffer.len()
 }
 
-// An append: one entry more behind the used ones, or a refusal and nothing changed.
-pub fn append(buffer: &mut [u8], used: usize, name: &[u8], bytes: &[u8]) -> Appended
+// An append: one entry more behind the used ones, and the used count then; or a refusal and nothing changed.
+#[tactic(auto, unfolding(crate::specs::Calls::append_of))]
+pub fn append(buffer: &mut [u8], used: usize, name: &[u8], bytes: &[u8]) -> Result<usize, Refusal>
     ensures settled { out result buffer.new
         ≡ append_of buffer.old used name.now bytes.now }
     ensures numbered { permitted flat_appending (said_appended result) ≡ true }
 {
     if buffer.len() < used {
-        return Appended::Declined(2);
+        return Err(Refusal::NotWhole);
     }
     if limits::NAME_LIMIT < name.len() {
-        return Appended::Declined(3);
+        return Err(Refusal::NameTooLong);
     }
-    if name.len() == 0 {
-        return Appended::Declined(13);
+    if name.is_empty() {
+        return Err(Refusal::Nameless);
     }
-    if !has_room(buffer.len(), used, name.len(), bytes.len()) {
-        return Appended::Declined(14);
+    if !has_room(buffer, used, name, bytes) {
+        return Err(Refusal::BufferFull);
     }
     entries::put_entry(buffer, used, name, bytes);
-    Appended::Accepted(used + (name.len() + bytes.len() + 6))
+    Ok(used + (name.len() + bytes.len() + 6))
 }

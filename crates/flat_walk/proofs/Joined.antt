@@ -10,8 +10,8 @@ use Rattle.spans.specs.Span.{overwrite}
 use Rattle.spans.proofs.Laws.{overwrite-append, overwrite_none}
 use Rattle.fastcmp.specs.Equal.{equal_bytes}
 use Rattle.entries.specs.Log.{Entry, joined_on, joined_in}
-use Rattle.flat_walk.specs.declared.Tally.{Tally}
-use Rattle.flat_walk.specs.Walk.{tally, tally_on, tally_in, place_on, output_on, place_in, output_in}
+use Rattle.std.specs.Prelude.{Some, None}
+use Rattle.flat_walk.specs.Walk.{Tally, count, tally_on, tally_in, place_on, output_on, place_in, output_in}
 
 -- the bytes that stand, none where the name doesn't
 abbrev pub plain : Option (List ℕ) → List ℕ
@@ -24,8 +24,8 @@ plain-on (some bs) bytes = refl
 
 -- the tally of what stands
 abbrev pub tally_by : Option (List ℕ) → Tally
-tally_by none = tally false 0
-tally_by (some bs) = tally true (length bs)
+tally_by none = None
+tally_by (some bs) = Some (length bs)
 
 module _ (name : List ℕ) where
   -- with one entry more
@@ -40,12 +40,12 @@ module _ (name : List ℕ) where
       ap (tally_in name es) (one (equal_bytes name e.name) stood) ∙ tally-joined es (on e stood)
     where
       both : (stood : Option (List ℕ))
-          → tally true ((tally_by stood).count + length e.bytes) ≡ tally_by (joined_on stood e.bytes)
-      both none = ap (tally true) (omega arith)
-      both (some bs) = ap (tally true) (sym (length-append bs e.bytes))
+          → Some (count (tally_by stood) + length e.bytes) ≡ tally_by (joined_on stood e.bytes)
+      both none = ap (λ (n : ℕ). Some n) (omega arith)
+      both (some bs) = ap (λ (n : ℕ). Some n) (sym (length-append bs e.bytes))
 
       one : (b : Bool) (stood : Option (List ℕ))
-          → cond b (tally true ((tally_by stood).count + length e.bytes)) (tally_by stood)
+          → cond b (Some (count (tally_by stood) + length e.bytes)) (tally_by stood)
           ≡ tally_by (cond b (joined_on stood e.bytes) stood)
       one true stood = both stood
       one false stood = refl

@@ -10,42 +10,33 @@ use borrow.Author.Tests.{eq-eqb, ne_eqb}
 use Rattle.spans.specs.Span.{read_span}
 use Rattle.spans.proofs.Laws.{length_span}
 use Rattle.fastcmp.specs.Equal.{equal_bytes}
-use Rattle.entries.specs.declared.Next.TheVariants.{Whole, NoEntry}
+use Rattle.std.specs.Prelude.{Some, None, Ok, Err}
+use Rattle.limits.specs.declared.Refusal.TheVariants.{Damaged}
+use Rattle.entries.specs.declared.Entry.{Entry as Places}
 use Rattle.entries.specs.Log.{Entry, entry}
 use Rattle.entries.specs.Form.{entry_at, Inside, Met, met, in_front, entries_from, entries_of}
 use Rattle.entries.proofs.Laws.{entries_none, entries-end, entries-whole}
-use Rattle.flat_walk.specs.declared.Tally.{Tally}
-use Rattle.flat_walk.specs.declared.Walked.TheVariants.{Through, Broken}
-use Rattle.flat_walk.specs.Walk.{tally, tally_on, tally_in, walked}
+use Rattle.flat_walk.specs.Walk.{Tally, count, tally_on, tally_in, walked}
 
-module _ (name other : List ℕ) (n : ℕ) (t : Tally) where
-  pub tally-same : equal_bytes name other ≡ true → tally true (t.count + n) ≡ tally_on name other n t
-  unfolding tally_on
-  tally-same e = rw e
-
-  pub tally_other : equal_bytes name other ≡ false → t ≡ tally_on name other n t
-  unfolding tally_on
-  tally_other e = rw e
-
-  tally_most : (tally_on name other n t).count ≤ t.count + n
-  unfolding tally_on
-  tally_most = go (equal_bytes name other)
-    where
-      go : (b : Bool) → (cond b (tally true (t.count + n)) t).count ≤ t.count + n
-      go true = omega arith
-      go false = omega arith
+tally_most : (name other : List ℕ) (n : ℕ) (t : Tally) → count (tally_on name other n t) ≤ count t + n
+unfolding tally_on
+tally_most name other n t = go (equal_bytes name other)
+  where
+    go : (b : Bool) → count (cond b (Some (count t + n)) t) ≤ count t + n
+    go true = omega arith
+    go false = omega arith
 
 -- the loop on its way: with what it has met so far, and the entries from a place on. That many turns are enough, though
 -- the code counts none
 pub record Going (run name : List ℕ) (t : Tally) (at : ℕ) : Type 0 where
   pub inside : at ≤ length run
-  pub few : t.count ≤ at
+  pub few : count t ≤ at
   pub turns : ℕ
   pub enough : length run ≤ at + turns
-  pub rest : walked name (length run) (entries_of run) (tally false 0)
+  pub rest : walked name (length run) (entries_of run) None
       ≡ walked name (length run) (entries_from turns run at) t
 
-pub going_start : (run name : List ℕ) → Going run name (tally false 0) 0
+pub going_start : (run name : List ℕ) → Going run name None 0
 going_start run name =
     record { inside = omega arith; few = omega arith; turns = length run; enough = omega arith; rest = refl }
 
@@ -55,38 +46,37 @@ unfolding tally_in
 walked-front name len e m t = refl
 
 module _ {run name : List ℕ} {t : Tally} {at : ℕ} (G : Going run name t at) where
-  pub going-turn : (nameEnd from to : ℕ) → at < length run → entry_at run at ≡ Whole nameEnd from to
-      → Inside (length run) at (Whole nameEnd from to)
-      → Going run name (tally_on name (read_span (at + 2) (nameEnd - (at + 2)) run) (to - from) t) to
-  going-turn nameEnd from to g e I =
-      let other : List ℕ = read_span (at + 2) (nameEnd - (at + 2)) run in
-      let bytes : List ℕ = read_span from (to - from) run in
-      let size : length bytes ≡ to - from = length_span from (to - from) run (omega (arith, I.1.1.0, I.1.1.1)) in
+  pub going-turn : (e : Places) → at < length run → entry_at run at ≡ Some e → Inside (length run) at (Some e)
+      → Going run name (tally_on name (read_span (at + 2) (e.name_end - (at + 2)) run) (e.to - e.from) t) e.to
+  going-turn e g q I =
+      let other : List ℕ = read_span (at + 2) (e.name_end - (at + 2)) run in
+      let bytes : List ℕ = read_span e.from (e.to - e.from) run in
+      let size : length bytes ≡ e.to - e.from = length_span e.from (e.to - e.from) run (omega arith) in
       let n : ℕ = G.turns - 1 in
       record {
         inside = I.1.1.1;
-        few = omega (arith, G.few, I.0, I.1.0, I.1.1.0, tally_most name other (to - from) t);
+        few = omega (arith, tally_most name other (e.to - e.from) t);
         turns = n;
-        enough = omega (arith, G.enough, I.0, I.1.0, I.1.1.0);
+        enough = omega arith;
         rest =
             G.rest
             ∙ ap (λ (m : Met). walked name (length run) m t)
-            (entries-whole run at G.turns nameEnd from to (omega (arith, G.enough)) e)
-            ∙ walked-front name (length run) (entry other bytes) (entries_from n run to) t
-            ∙ ap (λ (k : ℕ). walked name (length run) (entries_from n run to) (tally_on name other k t)) size;
+            (entries-whole run at G.turns e.name_end e.from e.to (omega arith) q)
+            ∙ walked-front name (length run) (entry other bytes) (entries_from n run e.to) t
+            ∙ ap (λ (k : ℕ). walked name (length run) (entries_from n run e.to) (tally_on name other k t)) size;
       }
 
   -- no entry is left: all is well at the run's end, and only there
   stopped : entries_from G.turns run at ≡ met [] at
-      → walked name (length run) (entries_of run) (tally false 0) ≡ cond (eqb at (length run)) (Through t) Broken
+      → walked name (length run) (entries_of run) None ≡ cond (eqb at (length run)) (Ok t) (Err Damaged)
   unfolding tally_in
   stopped e = G.rest ∙ ap (λ (m : Met). walked name (length run) m t) e
 
-  pub going-broken : at < length run → entry_at run at ≡ NoEntry
-      → Broken ≡ walked name (length run) (entries_of run) (tally false 0)
+  pub going-broken : at < length run → entry_at run at ≡ None
+      → Err Damaged ≡ walked name (length run) (entries_of run) None
   going-broken g e = sym (stopped (entries_none run at G.turns e) ∙ rw (ne_eqb at (length run) (λ q. omega arith)))
 
-  pub going_over : length run ≤ at → Through t ≡ walked name (length run) (entries_of run) (tally false 0)
+  pub going_over : length run ≤ at → Ok t ≡ walked name (length run) (entries_of run) None
   going_over h =
       let same : at ≡ length run = omega (arith, G.inside) in
       sym (stopped (entries-end run at G.turns h) ∙ rw (eq-eqb at (length run) same))

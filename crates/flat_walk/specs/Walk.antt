@@ -1,23 +1,27 @@
 -- The loops' own words: what has been met of a name, counted and written entry by entry.
-use Rattle.std.specs.Prelude.{ℕ, ◌+◌, Bool, true, cond, List, [], ◌∷◌, eqb, length}
+use Rattle.std.specs.Prelude.{ℕ, ◌+◌, cond, List, [], ◌∷◌, eqb, length, Option, Some, None, Result, Ok, Err}
+use Rattle.limits.specs.declared.Refusal.{Refusal}
+use Rattle.limits.specs.declared.Refusal.TheVariants.{Damaged}
 use Rattle.spans.specs.Span.{overwrite}
 use Rattle.fastcmp.specs.Equal.{equal_bytes}
 use Rattle.entries.specs.Log.{Entry}
 use Rattle.entries.specs.Form.{Met}
-use Rattle.flat_walk.specs.declared.Tally.{Tally}
-use Rattle.flat_walk.specs.declared.Walked.{Walked}
-use Rattle.flat_walk.specs.declared.Walked.TheVariants.{Through, Broken}
 
 -- ---- counted
 
--- RULES AH12.
-abbrev pub tally : Bool → ℕ → Tally
-tally stood count = record { stood = stood; count = count }
+-- RULES AH12. What was met of a name: so many bytes together, or no entry
+abbrev pub Tally : Type 0
+Tally = Option ℕ
+
+-- RULES AH12. The bytes
+abbrev pub count : Tally → ℕ
+count (Some n) = n
+count None = 0
 
 -- RULES AH12. With one entry more, of name `other` and n bytes
 unfoldable pub tally_on : List ℕ → List ℕ → ℕ → Tally → Tally
 unfolding equal_bytes
-tally_on name other n t = cond (equal_bytes name other) (tally true (t.count + n)) t
+tally_on name other n t = cond (equal_bytes name other) (Some (count t + n)) t
 
 -- RULES AH12. With all entries
 unfoldable pub tally_in : List ℕ → List Entry → Tally → Tally
@@ -26,8 +30,8 @@ tally_in name [] t = t
 tally_in name (e ∷ es) t = tally_in name es (tally_on name e.name (length e.bytes) t)
 
 -- RULES AH12. The entries must go to the run's end, also behind a match
-abbrev pub walked : List ℕ → ℕ → Met → Tally → Walked
-walked name len m t = cond (eqb m.end len) (Through (tally_in name m.entries t)) Broken
+abbrev pub walked : List ℕ → ℕ → Met → Tally → Result Tally Refusal
+walked name len m t = cond (eqb m.end len) (Ok (tally_in name m.entries t)) (Err Damaged)
 
 -- ---- written
 

@@ -2,89 +2,55 @@
 //
 // It promises, of any run, whether its entries go to its very end, and how many bytes those of the name have together,
 // also what stands behind a match; and of an output with room that just their bytes come to its front, in order.
-// specs/Walk.antt says it entry by entry, and proofs/Joined.antt that it comes to what the log comes to. It uses spans
-// (parts of memory, in definitions), fastcmp, fastcpy and entries.
+// specs/Walk.antt says it entry by entry, and proofs/Joined.antt that it comes to what the log comes to. It uses limits
+// (why a call refuses), spans (parts of memory, in definitions), fastcmp, fastcpy and entries.
 #![tactic(auto)]
 
-ghost use Rattle.std.specs.Prelude.{◌≡◌, false, ◌+◌, ◌-◌, ◌≤◌, length};
-ghost use Rattle.spans.specs.Span.{read_span};
+ghost use Rattle.std.specs.Prelude.{◌≡◌, ◌+◌, ◌≤◌, ◌<◌, ◌^◌, length, None};
 ghost use Rattle.entries.specs.Form.{entries_of};
-ghost use Rattle.flat_walk.specs.Walk.{tally, tally_on, walked, place_on, output_on, place_in, output_in};
+ghost use Rattle.flat_walk.specs.Walk.{count, tally_on, walked, place_on, output_on, place_in, output_in};
 
-use entries::Next;
+use limits::Refusal;
 
-// What was met of a name so far: whether an entry, and how many bytes.
-#[derive(Clone, Copy)]
-pub struct Tally {
-    pub stood: bool,
-    pub count: usize,
-}
-
-// All entries gone through, or one that overruns the run.
-#[derive(Clone, Copy)]
-pub enum Walked {
-    Through(Tally),
-    Broken,
-}
-
-// The tally with an entry more, whose name lies in the run and which has n bytes.
-fn tally_entry(t: Tally, run: &[u8], name: &[u8], from: usize, to: usize, n: usize) -> Tally
-    requires { (from ≤ to) × ((to ≤ length run.now) × (t.count + n ≤ length run.now)) }
-    ensures { result ≡ tally_on name.now (read_span from (to - from) run.now) n t }
+// What was met of a name so far, how many bytes if an entry at all, with an entry more of n bytes.
+#[tactic(auto, unfolding(crate::specs::Walk::tally_on))]
+fn tally_entry(met: Option<u64>, name: &[u8], other: &[u8], n: usize) -> Option<u64>
+    requires { count met + n < 2 ^ 64 }
+    ensures { result ≡ tally_on name.now other.now n met }
 {
-    if fastcmp::fast_short_slice_compare(name, &run[from..to]) {
-        return Tally {
-            stood: true,
-            count: t.count + n,
-        };
+    if fastcmp::fast_short_slice_compare(name, other) {
+        return Some(met.unwrap_or(0) + n as u64);
     }
-    t
+    met
 }
 
-// Counts all entries of a name.
-pub fn walk_run(run: &[u8], name: &[u8]) -> Walked
-    ensures { result
-        ≡ walked name.now (length run.now) (entries_of run.now) (tally false 0) }
+// Counts the bytes of all entries of a name, if there is one; where an entry overruns the run, it is damaged.
+pub fn walk_run(run: &[u8], name: &[u8]) -> Result<Option<u64>, Refusal>
+    ensures { result ≡ walked name.now (length run.now) (entries_of run.now) None }
 {
-    let mut t = Tally {
-        stood: false,
-        count: 0,
-    };
+    let mut met = None;
     let mut at = 0;
+    // each entry tells where the next one is, so no `for`
     while at < run.len() {
-        let e = entries::entry_at(run, at);
-        let Next::Whole(name_end, from, to) = e else {
-            return Walked::Broken;
+        let Some(e) = entries::entry_at(run, at) else {
+            return Err(Refusal::Damaged);
         };
-        t = tally_entry(t, run, name, at + 2, name_end, to - from);
-        at = to;
+        met = tally_entry(met, name, &run[at + 2..e.name_end], e.to - e.from);
+        at = e.to;
     }
-    Walked::Through(t)
+    Ok(met)
 }
 
 // An entry's bytes to a place of the output, where its name is the one asked for; and the place behind them.
-fn copy_entry(
-    run: &[u8],
-    name: &[u8],
-    start: usize,
-    name_end: usize,
-    from: usize,
-    to: usize,
-    output: &mut [u8],
-    done: usize,
-) -> usize
-    requires start_le_name_end { (start ≤ name_end) × ((name_end ≤ length run.now) × ((from ≤ to) × (to ≤ length run.now))) }
-    requires done_in_bounds { place_on name.now (read_span start (name_end - start) run.now) (to - from) done
-        ≤ length output.old }
-    ensures place { result
-        ≡ place_on name.now (read_span start (name_end - start) run.now) (to - from) done }
-    ensures output { output.new
-        ≡ output_on name.now (read_span start (name_end - start) run.now)
-        (read_span from (to - from) run.now) done output.old }
+#[tactic(auto, unfolding(crate::specs::Walk::place_on, crate::specs::Walk::output_on))]
+fn copy_entry(name: &[u8], other: &[u8], bytes: &[u8], output: &mut [u8], done: usize) -> usize
+    requires { place_on name.now other.now (length bytes.now) done ≤ length output.old }
+    ensures place { result ≡ place_on name.now other.now (length bytes.now) done }
+    ensures output { output.new ≡ output_on name.now other.now bytes.now done output.old }
 {
-    if fastcmp::fast_short_slice_compare(name, &run[start..name_end]) {
-        fastcpy::copy_in(output, done, &run[from..to]);
-        return done + (to - from);
+    if fastcmp::fast_short_slice_compare(name, other) {
+        fastcpy::copy_in(output, done, bytes);
+        return done + bytes.len();
     }
     done
 }
@@ -98,11 +64,16 @@ pub fn copy_run(run: &[u8], name: &[u8], output: &mut [u8])
     let mut at = 0;
     let mut done = 0;
     while at < run.len() {
-        let e = entries::entry_at(run, at);
-        let Next::Whole(name_end, from, to) = e else {
+        let Some(e) = entries::entry_at(run, at) else {
             return;
         };
-        done = copy_entry(run, name, at + 2, name_end, from, to, output, done);
-        at = to;
+        done = copy_entry(
+            name,
+            &run[at + 2..e.name_end],
+            &run[e.from..e.to],
+            output,
+            done,
+        );
+        at = e.to;
     }
 }

@@ -1,16 +1,17 @@
 -- Laws of bits, of marks, and of spans of marks. Assumes nothing.
 use Prim.Native.Nat.{ℕ, zero, suc, ◌+◌, ◌-◌, ◌*◌, ◌/◌, ◌%◌, ◌^◌, ◌≤◌, ◌<◌}
-use mathlib.Core.Path.{◌≡◌, refl, sym, ap, ◌∙◌, subst}
+use mathlib.Core.Path.{◌≡◌, refl, sym, ap, ◌∙◌}
 use mathlib.Core.Logic.{◌⊎◌, inl, inr, ⊎_elim}
 use mathlib.Core.Bool.{Bool, true, false, cond, ◌&&◌}
 use mathlib.Core.List.{List}
+use Rattle.std.specs.Prelude.{Some}
 use native.Mathlib.Nat.{one-mul, pow-succ', div-div-eq-div-mul}
 use native.Mathlib.Omega.{arith}
 use native.Mathlib.Decide.{ℕ_discrete}
 use lib.Dec.{leb, eqb, lit<}
-use lib.ListN.{length, get_or, set, length-set, replicate, length-replicate, get_or-replicate}
+use lib.ListN.{length, get_or, set, length-set, replicate, get_or-replicate}
 use lib.Pow.{shl_exact}
-use lib.Seq.{set-set, set-get_or, get_or-set_same, get_or-set_other, ext_get_or}
+use lib.Seq.{set-set, set-get_or, get_or-set_same, get_or-set_other}
 use borrow.Author.Tests.{eqb-false, eq-eqb, ne_eqb, leb-true, eqb-true}
 use Rattle.numbers.proofs.Tests.{both, not_both}
 use Rattle.marks.specs.Bits.{bit_of, marked, with_mark, Out, out, mark_one, mark_span, Strode}
@@ -215,21 +216,6 @@ span_on m k (suc n) m' h e = go (marked m k) e
         let p : m' ≡ with_mark m k = ap (λ (o : Out). o.marks) f in
         rw (q, p)
 
--- the bytes before i are zero
-pub cleared-turn : (m : List ℕ) (i : ℕ) → i < length m → ((j : ℕ) → j < i → get_or m j 0 ≡ 0) → (j : ℕ) → j < i + 1
-    → get_or (set m i 0) j 0 ≡ 0
-cleared-turn m i h f j k = go (ℕ_discrete j i)
-  where
-    go : Dec (j ≡ i) → get_or (set m i 0) j 0 ≡ 0
-    go (yes p) = rw p (get_or-set_same m i 0 0 h)
-    go (no p) = get_or-set_other m i j 0 0 p ∙ f j (omega arith)
-
-pub cleared-end : (m m₀ : List ℕ) (i : ℕ) → length m ≡ length m₀ → length m ≤ i → ((j : ℕ) → j < i → get_or m j 0 ≡ 0)
-    → m ≡ replicate (length m₀) 0
-cleared-end m m₀ i e h f =
-    ext_get_or 0 m (replicate (length m₀) 0) (e ∙ sym (length-replicate (length m₀) 0))
-    (λ j k. f j (omega arith) ∙ sym (get_or-replicate (length m₀) j 0 0 (omega arith)))
-
 -- nothing is marked in a clear area
 bit_zero : (r : ℕ) → bit_of r 0 ≡ false
 unfolding bit_of
@@ -241,23 +227,21 @@ unfolding marked
 clear_unmarked n k h = rw (get_or-replicate {A = ℕ} n (k / 8) 0 0 (omega arith)) (bit_zero (k % 8))
 
 -- the code's shifts
-pub shift_one : (k : ℕ) → 1 * 2 ^ (k % 8) % 4294967296 ≡ 2 ^ (k % 8)
-shift_one k = shl_exact {a = 1} 1 (k % 8) 32 (lit< tt) (omega arith) ∙ one-mul (2 ^ (k % 8))
+pub shift_one : (k : ℕ) → 1 * 2 ^ (k % 8) % 256 ≡ 2 ^ (k % 8)
+shift_one k = shl_exact {a = 1} 1 (k % 8) 8 (lit< tt) (omega arith) ∙ one-mul (2 ^ (k % 8))
 
-pub code_marked : (m : List ℕ) (k x : ℕ) (b : Bool) → x ≡ get_or m (k / 8) 0 → eqb (x / 2 ^ (k % 8) % 2) 1 ≡ b
-    → marked m k ≡ b
+pub code_marked : (m : List ℕ) (k : ℕ) (b : Bool) → eqb (get_or m (k / 8) 0 / 2 ^ (k % 8) % 2) 1 ≡ b → marked m k ≡ b
 unfolding marked
-code_marked m k x b e f = rw (← e) (bit_shift (k % 8) x ∙ f)
+code_marked m k b f = bit_shift (k % 8) (get_or m (k / 8) 0) ∙ f
 
-pub code_fits : (m : List ℕ) (k x : ℕ) → x ≡ get_or m (k / 8) 0 → x < 256 → marked m k ≡ false
-    → x + 1 * 2 ^ (k % 8) % 4294967296 < 256
+pub code_fits : (m : List ℕ) (k : ℕ) → get_or m (k / 8) 0 < 256 → marked m k ≡ false
+    → get_or m (k / 8) 0 + 1 * 2 ^ (k % 8) % 256 < 256
 unfolding marked
-code_fits m k x e h f = rw (shift_one k) (bit_fits (k % 8) 8 x (omega arith) h (rw e f))
+code_fits m k h f = rw (shift_one k) (bit_fits (k % 8) 8 (get_or m (k / 8) 0) (omega arith) h f)
 
-pub code_set : (m : List ℕ) (k x : ℕ) → x ≡ get_or m (k / 8) 0
-    → set m (k / 8) (x + 1 * 2 ^ (k % 8) % 4294967296) ≡ with_mark m k
+pub code_set : (m : List ℕ) (k : ℕ) → set m (k / 8) (get_or m (k / 8) 0 + 1 * 2 ^ (k % 8) % 256) ≡ with_mark m k
 unfolding with_mark
-code_set m k x e = rw (shift_one k, e)
+code_set m k = rw (shift_one k)
 
 -- ---- a whole byte at a time
 
@@ -314,24 +298,11 @@ span_byte m k n h e l z =
 
 -- ---- strides
 
-pub stride_byte : (m : List ℕ) (k n x : ℕ) → x ≡ get_or m (k / 8) 0 → k + n ≤ 8 * length m → 0 < n
-    → (leb 8 n && eqb (k % 8) 0 && eqb x 0) ≡ true → Strode m k n false 8 (set m (k / 8) 255)
-stride_byte m k n x e h s t =
+pub stride_byte : (m : List ℕ) (k n : ℕ) → k + n ≤ 8 * length m → 0 < n
+    → (leb 8 n && eqb (k % 8) 0 && eqb (get_or m (k / 8) 0) 0) ≡ true → Strode m k n (Some 8) (set m (k / 8) 255)
+stride_byte m k n h s t =
+    let x = get_or m (k / 8) 0 in
     let p = both (leb 8 n && eqb (k % 8) 0) (eqb x 0) t in
     let q = both (leb 8 n) (eqb (k % 8) 0) p.0 in
     let l : 8 ≤ n = leb-true 8 n q.0 in
-    let z : k % 8 ≡ 0 = eqb-true (k % 8) 0 q.1 in
-    record {
-      stops = λ c. not_both false c refl;
-      goes = λ c. span_byte m k n (omega arith) z l (sym e ∙ eqb-true x 0 p.1);
-      some = omega arith;
-      most = l;
-    }
-
-pub stride_one : (m : List ℕ) (k n : ℕ) (b : Bool) (m' : List ℕ) → 0 < n → out b m' ≡ mark_one m k → Strode m k n b 1 m'
-stride_one m k n b m' h e = record {
-  stops = λ c. span_stop m k n m' h (subst (λ (x : Bool). out x m' ≡ mark_one m k) c e);
-  goes = λ c. span_on m k n m' h (subst (λ (x : Bool). out x m' ≡ mark_one m k) c e);
-  some = omega arith;
-  most = h;
-}
+    (span_byte m k n (omega arith) (eqb-true (k % 8) 0 q.1) l (eqb-true x 0 p.1), omega arith, l)

@@ -1,5 +1,5 @@
 -- RULES AF15. A mark area: one bit for each place, eight a byte, the low bit first.
-use Rattle.std.specs.Prelude.{ℕ, zero, suc, ◌+◌, ◌-◌, ◌/◌, ◌%◌, ◌^◌, ◌≤◌, ◌<◌, ◌≡◌, Bool, true, false, cond, List, eqb, get_or, set}
+use Rattle.std.specs.Prelude.{ℕ, zero, suc, ◌+◌, ◌-◌, ◌/◌, ◌%◌, ◌^◌, ◌≤◌, ◌<◌, ◌≡◌, Bool, true, false, cond, List, eqb, get_or, set, Option, Some, None}
 
 -- RULES AF15. Bit r of a number, from 0.
 unfoldable pub bit_of : ℕ → ℕ → Bool
@@ -35,9 +35,7 @@ unfolding marked with_mark
 mark_span m k zero = out false m
 mark_span m k (suc n) = cond (marked m k) (out true m) (mark_span (with_mark m k) (k + 1) n)
 
--- what a stride from place k, of n that are to be marked, did: it met a marked place, or there are `done` fewer to mark
-pub record Strode (m : List ℕ) (k n : ℕ) (met : Bool) (done : ℕ) (m' : List ℕ) : Type 0 where
-  pub stops : met ≡ true → out true m' ≡ mark_span m k n
-  pub goes : met ≡ false → mark_span m k n ≡ mark_span m' (k + done) (n - done)
-  pub some : 0 < done
-  pub most : done ≤ n
+-- what a stride from place k, of n that are to be marked, did: it met a marked place, or there are so many fewer to mark
+abbrev pub Strode : List ℕ → ℕ → ℕ → Option ℕ → List ℕ → Type 0
+Strode m k n None m' = out true m' ≡ mark_span m k n
+Strode m k n (Some done) m' = (mark_span m k n ≡ mark_span m' (k + done) (n - done)) × (0 < done) × (done ≤ n)

@@ -8,21 +8,11 @@
 ghost use Rattle.std.specs.Prelude.{◌≡◌, ◌+◌, ◌*◌, ◌^◌, ◌≤◌, ◌<◌, length, replicate};
 ghost use Rattle.marks.specs.Bits.{out, mark_one, mark_span, Strode};
 
-fn wide(b: u8) -> u32
-    ensures { (result ≡ b) × (result < 256) }
-{
-    b as u32
-}
-
 // Every byte zero.
 pub fn clear(marks: &mut [u8])
     ensures settled { marks.new ≡ replicate (length marks.old) 0 }
 {
-    let mut i = 0;
-    while i < marks.len() {
-        marks[i] = 0;
-        i += 1;
-    }
+    marks.fill(0);
 }
 
 // Marks place k; whether it was marked already.
@@ -32,38 +22,28 @@ pub fn mark(marks: &mut [u8], k: usize) -> bool
 {
     let at = k / 8;
     let r = k % 8;
-    let old = wide(marks[at]);
+    let old = marks[at];
     if (old >> r) % 2 == 1 {
         return true;
     }
-    let new = old + (1u32 << r);
-    marks[at] = new as u8;
+    marks[at] = old + (1 << r);
     false
 }
 
-// What a stride did: whether its place was marked already, and else how many it marked.
-#[derive(Clone, Copy)]
-struct Stride {
-    met: bool,
-    done: usize,
-}
-
-// Marks a whole byte's places where they are free and wanted, else one place.
-fn mark_some(marks: &mut [u8], at: usize, left: usize) -> Stride
+// Marks a whole byte's places where they are free and wanted, else one place; how many, if none was marked already.
+fn mark_some(marks: &mut [u8], at: usize, left: usize) -> Option<usize>
     requires { (0 < left) × (at + left ≤ 8 * length marks.old) }
-    ensures { Strode marks.old at left result.met result.done marks.new }
+    ensures { Strode marks.old at left result marks.new }
 {
     let w = at / 8;
-    let old = wide(marks[w]);
-    if (8 <= left) & (at % 8 == 0) & (old == 0) {
+    if (8 <= left) & (at % 8 == 0) & (marks[w] == 0) {
         marks[w] = 255;
-        return Stride {
-            met: false,
-            done: 8,
-        };
+        return Some(8);
     }
-    let met = mark(marks, at);
-    Stride { met, done: 1 }
+    if mark(marks, at) {
+        return None;
+    }
+    Some(1)
 }
 
 // Marks n places from one on, up to the first that was marked already; whether there was one.
@@ -73,14 +53,13 @@ pub fn mark_span(marks: &mut [u8], from: usize, n: usize) -> bool
 {
     let mut at = from;
     let mut left = n;
+    // by strides of one place or eight, so no `for`
     while 0 < left {
-        let s = mark_some(marks, at, left);
-        let met = s.met;
-        if met {
+        let Some(done) = mark_some(marks, at, left) else {
             return true;
-        }
-        at += s.done;
-        left -= s.done;
+        };
+        at += done;
+        left -= done;
     }
     false
 }

@@ -6,8 +6,8 @@ use native.Mathlib.Nat.{le_refl}
 use native.Mathlib.Omega.{arith}
 use lib.ListN.{length, length-append}
 use lib.IntN.{ℤ}
-use Rattle.vint.specs.declared.Unvint.{Unvint}
-use Rattle.vint.specs.Vint.{write_vint}
+use Rattle.std.specs.Prelude.{None}
+use Rattle.vint.specs.Vint.{Unvint, write_vint}
 use Rattle.vint.proofs.Laws.{vint_length}
 use Rattle.vint.proofs.Forms.{read_back}
 use Rattle.signed.specs.Signed.{Signed32, difference, stored}
@@ -34,7 +34,7 @@ longer last r rs =
 
 -- the bytes of readings split into their numbers, with nothing left over
 splits : (f : ℕ) (last : ℤ) (rs : List ℤ) → length (readings_bytes last rs) ≤ f
-    → split_up f (readings_bytes last rs) ≡ split (stored_from last rs) 0
+    → split_up f (readings_bytes last rs) ≡ split (stored_from last rs) None
 splits f last [] h = split_none f
 splits zero last (r ∷ rs) h = absurd (omega (arith, longer last r rs))
 splits (suc f) last (r ∷ rs) h =
@@ -42,7 +42,7 @@ splits (suc f) last (r ∷ rs) h =
     (stored-fits (difference last r) (difference-fits last r))
     ∙ ap (in_front (stored (difference last r))) (splits f r rs (omega (arith, longer last r rs)))
 
-pub written_splits : (last : ℤ) (rs : List ℤ) → vints_of (readings_bytes last rs) ≡ split (stored_from last rs) 0
+pub written_splits : (last : ℤ) (rs : List ℤ) → vints_of (readings_bytes last rs) ≡ split (stored_from last rs) None
 written_splits last rs =
     splits (length (readings_bytes last rs)) last rs (le_refl (length (readings_bytes last rs)))
 

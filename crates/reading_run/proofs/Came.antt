@@ -10,17 +10,17 @@ use lib.Dec.{ltb, eqb}
 use lib.ListN.{length, take, drop, set, length-set, length-append}
 use lib.Seq.{take-suc-set, length-take-le}
 use lib.IntN.{ℤ, pos}
-use borrow.Author.Tests.{ltb-true, eq-eqb, ne_eqb}
+use borrow.Author.Tests.{ltb-true}
 use Rattle.limits.specs.Limits.{vint_limit}
 use Rattle.numbers.proofs.Tests.{both}
-use Rattle.vint.specs.declared.Unvint.{Unvint}
-use Rattle.vint.specs.declared.Unvint.TheVariants.{Number, Refused}
-use Rattle.vint.specs.Vint.{read_vint}
+use Rattle.std.specs.Prelude.{Some, None, Ok, Err}
+use Rattle.std.specs.Option.{is_none}
+use Rattle.limits.specs.declared.Refusal.TheVariants.{NoEnd}
+use Rattle.vint.specs.Vint.{Unvint, read_vint}
 use Rattle.signed.specs.Signed.{following, unstored}
 use Rattle.reading_run.specs.declared.Run.{Run}
 use Rattle.reading_run.specs.Readings.{Split, split, in_front, vints_of, readings_from, readings_in}
 use Rattle.reading_run.specs.Run.{Out, out, run_with, on_number, on_read, holding, turn_of, run_of, begun, end_of}
-use Rattle.reading_run.proofs.Split.{refusal_some}
 use Rattle.reading_run.proofs.Spread.{spread, on_whole, spread_vints}
 use Rattle.reading_run.proofs.Turns.{turn_stopped, turn-held, turn-read, run_step, run_none}
 
@@ -29,7 +29,7 @@ abbrev put_all : ℕ → List ℤ → List ℤ → List ℤ
 put_all at [] o = o
 put_all at (r ∷ rs) o = put_all (suc at) rs (set o at r)
 
-run-stopped : (s : Run) (bs : List ℕ) (o : List ℤ) → (s.fault ≡ 0 → ⊥) → run_of s bs o ≡ out s o
+run-stopped : (s : Run) (bs : List ℕ) (o : List ℤ) → is_none s.fault ≡ false → run_of s bs o ≡ out s o
 run-stopped s [] o h = run_none s o
 run-stopped s (b ∷ bs) o h =
     run_step s b bs o
@@ -46,13 +46,13 @@ record Came (s : Run) (o : List ℤ) (S : Split) (t : Out) : Type 0 where
 abbrev after_number : Run → ℕ → ℕ → List ℤ → Out
 after_number s b u o = on_number u (holding s b) o
 
-came : (bs : List ℕ) (s : Run) (o : List ℤ) → s.fault ≡ 0 → s.count < vint_limit → length s.held ≡ vint_limit
+came : (bs : List ℕ) (s : Run) (o : List ℤ) → is_none s.fault ≡ true → s.count < vint_limit → length s.held ≡ vint_limit
     → Came s o (spread (take s.count s.held) bs) (run_of s bs o)
 unfolding spread
 came [] s o f c l =
     let n : length (take s.count s.held) ≡ s.count = length-take-le s.count s.held (omega arith) in
     subst (Came s o (spread (take s.count s.held) [])) (sym (run_none s o)) (record {
-      end = rw (eq-eqb s.fault 0 f) (ap (λ (m : ℕ). cond (eqb m 0) 0 11) (sym n));
+      end = rw f (ap (λ (m : ℕ). cond (eqb m 0) None (Some NoEnd)) (sym n));
       count = omega arith;
       output = refl;
     })
@@ -84,11 +84,11 @@ came (b ∷ bs) s o f c l =
         → ((u : ℕ) → Came (after_number s b u o).run (after_number s b u o).output (spread [] bs)
         (run_of (after_number s b u o).run bs (after_number s b u o).output))
         → Came s o (on_whole r (spread [] bs)) (run_of s (b ∷ bs) o)
-    read (Number u j) e q rest =
-        let C = rest u in
-        let x : ℤ = following s.last (unstored u) in
-        subst (Came s o (in_front u (spread [] bs)))
-        (sym (goes_on (on_read (Number u j) (holding s b) o)
+    read (Ok r) e q rest =
+        let C = rest r.number in
+        let x : ℤ = following s.last (unstored r.number) in
+        subst (Came s o (in_front r.number (spread [] bs)))
+        (sym (goes_on (on_read (Ok r) (holding s b) o)
         (turn-read s b o f q ∙ ap (λ (r : Unvint). on_read r (holding s b) o) e)))
         (record {
           end = C.end;
@@ -98,13 +98,12 @@ came (b ∷ bs) s o f c l =
               ∙ ap (λ (m : ℕ). put_all m (readings_from x (spread [] bs).numbers) (set o s.readings x))
               (add-one s.readings);
         })
-    read (Refused m) e q rest =
-        let z = refusal_some (take (s.count + 1) (holding s b).held) m e in
-        subst (Came s o (split [] m))
-        (sym (goes_on (on_read (Refused m) (holding s b) o)
+    read (Err r) e q rest =
+        subst (Came s o (split [] (Some r)))
+        (sym (goes_on (on_read (Err r) (holding s b) o)
         (turn-read s b o f q ∙ ap (λ (r : Unvint). on_read r (holding s b) o) e)
-        ∙ run-stopped (run_with (holding s b).held 0 s.last s.readings m) bs o z))
-        (record { end = rw (ne_eqb m 0 z); count = omega arith; output = refl })
+        ∙ run-stopped (run_with (holding s b).held 0 s.last s.readings (Some r)) bs o refl))
+        (record { end = refl; count = omega arith; output = refl })
 
     go : (c : Bool) → (ltb b 128 && ltb (s.count + 1) vint_limit) ≡ c
         → (r : Unvint) → read_vint (take (s.count + 1) (holding s b).held) ≡ r

@@ -1,17 +1,18 @@
 -- Bytes split into vints, one step at a time; and what is asked of the vint reader here. Assumes nothing.
 use Prim.Native.Nat.{ℕ, zero, suc, ◌≤◌}
-use mathlib.Core.Path.{◌≡◌, refl, subst}
+use mathlib.Core.Path.{◌≡◌, refl, sym, subst}
 use mathlib.Core.Bool.{Bool, true, false, cond, false≢true, ◌||◌}
 use mathlib.Core.List.{List, [], ◌∷◌, ◌++◌}
 use native.Mathlib.Omega.{arith}
 use lib.Dec.{eqb}
 use lib.ListN.{length, drop}
 use Rattle.limits.specs.Limits.{vint_limit}
-use Rattle.limits.specs.Refusals.{unvinting, refusal_numbers, is_among, permitted}
-use Rattle.vint.specs.declared.Unvint.{Unvint}
-use Rattle.vint.specs.declared.Unvint.TheVariants.{Number, Refused}
-use Rattle.vint.specs.Vint.{ended, take_vint, last_group, is_another_form, answer_of, read_vint, said_unvint}
-use Rattle.vint.proofs.Laws.{answers}
+use Rattle.limits.specs.Refusals.{unvinting, refusal_numbers, is_among, permitted, number_of}
+use Rattle.limits.specs.declared.Refusal.{Refusal}
+use Rattle.limits.specs.declared.Refusal.TheVariants.{AnotherForm}
+use Rattle.std.specs.Prelude.{Option, Some, None, Ok, Err}
+use Rattle.vint.specs.Vint.{Unvint, number, ended, take_vint, last_group, is_another_form, answer_of, read_vint, said_unvint}
+use Rattle.vint.proofs.Laws.{answers, same_number}
 use Rattle.reading_run.specs.Readings.{split, on_vint, split_up, vints_of}
 
 pub drop-front : (xs ys : List ℕ) → drop (length xs) (xs ++ ys) ≡ ys
@@ -24,7 +25,7 @@ unfolding split_up
 split_step f [] h = absurd (omega arith)
 split_step f (b ∷ bs) h = refl
 
-pub split_none : (f : ℕ) → split_up f [] ≡ split [] 0
+pub split_none : (f : ℕ) → split_up f [] ≡ split [] None
 unfolding split_up
 split_none zero = refl
 split_none (suc f) = refl
@@ -50,37 +51,34 @@ among-front n (m ∷ ms) ns e = go (eqb n m) (among-front n ms ns) e
     go false f e = f e
 
 -- the count that goes with a number is that of the bytes taken
-pub counted : (v k u j : ℕ) → answer_of (ended v k) ≡ Number u j → j ≡ k
+pub counted : (v k u j : ℕ) → answer_of (ended v k) ≡ number u j → j ≡ k
 unfolding answer_of
 counted v k u j e = go (is_another_form k (last_group v k)) e
   where
-    go : (t : Bool) → cond t (Refused 12) (Number v k) ≡ Number u j → j ≡ k
-    go true e = let z : ◌≡◌ {A = ℕ} 0 1 = cc in absurd (omega arith)
-    go false e = cc
+    go : (t : Bool) → ◌≡◌ {A = Unvint} (cond t (Err AnotherForm) (number v k)) (number u j) → j ≡ k
+    go true e = cc
+    go false e = sym (same_number v k u j e).1
 
--- a refusal's number is a listed one
-pub refusal_listed : (xs : List ℕ) (n : ℕ) → read_vint xs ≡ Refused n → is_among n (refusal_numbers unvinting) ≡ true
-refusal_listed xs n e =
+-- how bytes end: none, or a refusal that is the reader's
+abbrev pub Listed : Option Refusal → Type 0
+Listed None = Unit {0}
+Listed (Some r) = is_among (number_of r) (refusal_numbers unvinting) ≡ true
+
+refusal_listed : (xs : List ℕ) (r : Refusal) → read_vint xs ≡ Err r → Listed (Some r)
+refusal_listed xs r e =
     subst (λ (r : Unvint). permitted unvinting (said_unvint r) ≡ true) e
     (answers xs (take_vint vint_limit xs) (read_vint xs) refl refl).1
 
--- and so it isn't 0
-pub refusal_some : (xs : List ℕ) (n : ℕ) → read_vint xs ≡ Refused n → n ≡ 0 → ⊥
-refusal_some xs n e z =
-    false≢true (subst (λ (k : ℕ). is_among k (refusal_numbers unvinting) ≡ true) z (refusal_listed xs n e))
-
--- how bytes end: 0, or a number that is the reader's
-splits_listed : (f : ℕ) (bs : List ℕ) → is_among (split_up f bs).refusal (0 ∷ refusal_numbers unvinting) ≡ true
+splits_listed : (f : ℕ) (bs : List ℕ) → Listed (split_up f bs).refusal
 unfolding split_up
-splits_listed zero bs = refl
-splits_listed (suc f) [] = refl
+splits_listed zero bs = tt
+splits_listed (suc f) [] = tt
 splits_listed (suc f) (b ∷ bs) = go (read_vint (b ∷ bs)) refl (splits_listed f)
   where
-    go : (r : Unvint) → read_vint (b ∷ bs) ≡ r
-        → ((rest : List ℕ) → is_among (split_up f rest).refusal (0 ∷ refusal_numbers unvinting) ≡ true)
-        → is_among (on_vint r (b ∷ bs) (λ rest. split_up f rest)).refusal (0 ∷ refusal_numbers unvinting) ≡ true
-    go (Number u k) e more = more (drop k (b ∷ bs))
-    go (Refused n) e more = among-behind n (0 ∷ []) (refusal_numbers unvinting) (refusal_listed (b ∷ bs) n e)
+    go : (r : Unvint) → read_vint (b ∷ bs) ≡ r → ((rest : List ℕ) → Listed (split_up f rest).refusal)
+        → Listed (on_vint r (b ∷ bs) (λ rest. split_up f rest)).refusal
+    go (Ok r) e more = more (drop r.taken (b ∷ bs))
+    go (Err r) e more = refusal_listed (b ∷ bs) r e
 
-pub refusals_listed : (bs : List ℕ) → is_among (vints_of bs).refusal (0 ∷ refusal_numbers unvinting) ≡ true
+pub refusals_listed : (bs : List ℕ) → Listed (vints_of bs).refusal
 refusals_listed bs = splits_listed (length bs) bs

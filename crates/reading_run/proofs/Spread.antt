@@ -9,9 +9,9 @@ use lib.Dec.{ltb, eqb}
 use lib.ListN.{length, length-append, drop}
 use borrow.Author.Tests.{ltb-true, ltb-false, le-leb, lt-leb, ne_eqb}
 use Rattle.limits.specs.Limits.{vint_limit}
-use Rattle.vint.specs.declared.Unvint.{Unvint}
-use Rattle.vint.specs.declared.Unvint.TheVariants.{Number, Refused}
-use Rattle.vint.specs.Vint.{Taken, ended, unended, grouped, take_vint, answer_of, read_vint}
+use Rattle.std.specs.Prelude.{Some, None, Ok, Err}
+use Rattle.limits.specs.declared.Refusal.TheVariants.{NoEnd}
+use Rattle.vint.specs.Vint.{Unvint, Taken, ended, unended, grouped, take_vint, answer_of, read_vint}
 use Rattle.reading_run.specs.Readings.{Split, split, in_front, on_vint, split_up, vints_of}
 use Rattle.reading_run.proofs.Split.{drop-front, split_step, split_none, counted}
 
@@ -70,13 +70,13 @@ take-held (suc w) (b ∷ h) n = take_low w b h n.0 ∙ ap (grouped b) (take-held
 -- ---- byte by byte
 
 abbrev pub on_whole : Unvint → Split → Split
-on_whole (Number u k) rest = in_front u rest
-on_whole (Refused n) rest = split [] n
+on_whole (Ok r) rest = in_front r.number rest
+on_whole (Err r) rest = split [] (Some r)
 
 -- bytes behind held ones
 unfoldable pub spread : List ℕ → List ℕ → Split
 unfolding take_vint answer_of
-spread h [] = split [] (cond (eqb (length h) 0) 0 11)
+spread h [] = split [] (cond (eqb (length h) 0) None (Some NoEnd))
 spread h (b ∷ bs) =
     cond (ltb b 128 && ltb (length h + 1) vint_limit) (spread (h ++ (b ∷ [])) bs)
     (on_whole (read_vint (h ++ (b ∷ []))) (spread [] bs))
@@ -90,10 +90,10 @@ snoc_on h b bs = append_assoc h (b ∷ []) bs
 -- the reader goes on behind the bytes that it took
 answer_step : (v : ℕ) (xs bs : List ℕ) (rest : List ℕ → Split) (r : Unvint) → answer_of (ended v (length xs)) ≡ r
     → on_vint r (xs ++ bs) rest ≡ on_whole r (rest bs)
-answer_step v xs bs rest (Number u j) e =
-    ap (λ (k : ℕ). in_front u (rest (drop k (xs ++ bs)))) (counted v (length xs) u j e)
-    ∙ ap (λ (l : List ℕ). in_front u (rest l)) (drop-front xs bs)
-answer_step v xs bs rest (Refused n) e = refl
+answer_step v xs bs rest (Ok r) e =
+    ap (λ (k : ℕ). in_front r.number (rest (drop k (xs ++ bs)))) (counted v (length xs) r.number r.taken e)
+    ∙ ap (λ (l : List ℕ). in_front r.number (rest l)) (drop-front xs bs)
+answer_step v xs bs rest (Err r) e = refl
 
 -- a whole vint, or five bytes without an end, in front of bytes
 module _ (f : ℕ) (h : List ℕ) (b : ℕ) (bs : List ℕ) (n : NoTop h) (l : length h < vint_limit) where
@@ -135,7 +135,7 @@ unfolding spread answer_of
 spread_is f [] [] n l k = sym (split_none f)
 spread_is zero (x ∷ h) [] n l k = absurd (omega arith)
 spread_is (suc f) (x ∷ h) [] n l k =
-    ap (λ (t : Bool). split [] (cond t 0 11)) (ne_eqb (suc (length h)) 0 (λ z. omega arith))
+    ap (λ (t : Bool). split [] (cond t None (Some NoEnd))) (ne_eqb (suc (length h)) 0 (λ z. omega arith))
     ∙ sym (ap (split_up (suc f)) (append-nil (x ∷ h)) ∙ split_step f (x ∷ h) (omega arith)
     ∙ ap (λ (u : Taken). on_vint (answer_of u) (x ∷ h) (λ rest. split_up f rest)) (take-held vint_limit (x ∷ h) n))
 spread_is zero h (b ∷ bs) n l k = absurd (omega arith)

@@ -1,42 +1,37 @@
 -- The run, turn by turn: what a byte does by its tests, what it keeps, and the loop over bytes. Assumes nothing.
-use Prim.Native.Nat.{ℕ, zero, suc, ◌+◌, ◌-◌, ◌≤◌, ◌<◌}
+use Prim.Native.Nat.{ℕ, suc, ◌+◌, ◌-◌, ◌≤◌, ◌<◌}
 use mathlib.Core.Path.{◌≡◌, refl, sym, ap, ◌∙◌, subst}
 use mathlib.Core.Bool.{Bool, true, false, cond, ◌&&◌}
 use mathlib.Core.List.{List, [], ◌∷◌, ◌++◌}
 use native.Mathlib.Omega.{arith}
-use lib.Dec.{ltb, eqb}
-use lib.ListN.{length, take, drop, set, get_or, length-set, drop_of_length-le}
+use lib.Dec.{ltb}
+use lib.ListN.{length, take, drop, get_or, length-set, drop_of_length-le}
 use lib.Seq.{drop-cons}
 use lib.IntN.{ℤ}
-use borrow.Author.Tests.{eq-eqb, ne_eqb, ltb-true}
+use borrow.Author.Tests.{ltb-true}
 use Rattle.limits.specs.Limits.{vint_limit}
-use Rattle.vint.specs.declared.Unvint.{Unvint}
-use Rattle.vint.specs.declared.Unvint.TheVariants.{Number, Refused}
-use Rattle.vint.specs.Vint.{read_vint}
+use Rattle.std.specs.Prelude.{Ok, Err}
+use Rattle.std.specs.Option.{is_none}
+use Rattle.vint.specs.Vint.{Unvint, read_vint}
 use Rattle.reading_run.specs.declared.Run.{Run}
-use Rattle.reading_run.specs.Run.{Out, out, on_read, holding, turn_of, run_of, end_of}
-
-pub set_past : (xs : List ℤ) (i : ℕ) (x : ℤ) → length xs ≤ i → xs ≡ set xs i x
-set_past [] i x h = refl
-set_past (y ∷ xs) zero x h = absurd (omega arith)
-set_past (y ∷ xs) (suc i) x h = ap (λ (l : List ℤ). y ∷ l) (set_past xs i x (omega arith))
+use Rattle.reading_run.specs.Run.{Out, out, on_read, holding, turn_of, run_of}
 
 -- ---- a turn, by its tests
 
 module _ (s : Run) (b : ℕ) (o : List ℤ) where
-  pub turn_stopped : (s.fault ≡ 0 → ⊥) → turn_of s b o ≡ out s o
+  pub turn_stopped : is_none s.fault ≡ false → turn_of s b o ≡ out s o
   unfolding turn_of
-  turn_stopped h = rw (ne_eqb s.fault 0 h)
+  turn_stopped h = rw h
 
-  module _ (h : s.fault ≡ 0) where
+  module _ (h : is_none s.fault ≡ true) where
     pub turn-held : (ltb b 128 && ltb (s.count + 1) vint_limit) ≡ true → turn_of s b o ≡ out (holding s b) o
     unfolding turn_of
-    turn-held e = rw (eq-eqb s.fault 0 h, e)
+    turn-held e = rw (h, e)
 
     pub turn-read : (ltb b 128 && ltb (s.count + 1) vint_limit) ≡ false
         → turn_of s b o ≡ on_read (read_vint (take (s.count + 1) (holding s b).held)) (holding s b) o
     unfolding turn_of
-    turn-read e = rw (eq-eqb s.fault 0 h, e)
+    turn-read e = rw (h, e)
 
 -- ---- the fold
 
@@ -65,13 +60,13 @@ pub record Kept (s : Run) (n : ℕ) (o : List ℤ) (t : Out) : Type 0 where
   pub long : length t.output ≡ length o
 
 kept_read : (s : Run) (b : ℕ) (o : List ℤ) (r : Unvint) → Kept s 1 o (on_read r (holding s b) o)
-kept_read s b o (Number u k) = record {
+kept_read s b o (Ok r) = record {
   places = length-set s.held s.count b;
   few = omega arith;
   more = omega arith;
   long = length-set o s.readings _;
 }
-kept_read s b o (Refused n) = record {
+kept_read s b o (Err r) = record {
   places = length-set s.held s.count b;
   few = omega arith;
   more = omega arith;
@@ -80,7 +75,7 @@ kept_read s b o (Refused n) = record {
 
 turn-keeps : (s : Run) (b : ℕ) (o : List ℤ) → s.count < vint_limit → Kept s 1 o (turn_of s b o)
 unfolding turn_of
-turn-keeps s b o h = go (eqb s.fault 0) (ltb b 128) (ltb (s.count + 1) vint_limit) refl
+turn-keeps s b o h = go (is_none s.fault) (ltb b 128) (ltb (s.count + 1) vint_limit) refl
   where
     go : (f c d : Bool) → ltb (s.count + 1) vint_limit ≡ d
         → Kept s 1 o (cond f (cond (c && d) (out (holding s b) o)
@@ -118,16 +113,6 @@ pub record Taking (s : Run) (bytes : List ℕ) (o₀ : List ℤ) (t : Run) (o : 
   pub room : t.readings + (length bytes - i) ≤ s.readings + length bytes
   pub long : length o ≡ length o₀
 
-pub taking-begun : (s : Run) (bytes : List ℕ) (o : List ℤ) → s.count < vint_limit → Taking s bytes o s o 0
-taking-begun s bytes o h = record {
-  whole = refl;
-  there = omega arith;
-  places = refl;
-  few = h;
-  room = omega arith;
-  long = refl;
-}
-
 module _ {s : Run} {bytes : List ℕ} {o₀ : List ℤ} {t : Run} {o : List ℤ} {i : ℕ} (T : Taking s bytes o₀ t o i) where
   pub taking-on : i < length bytes → (t' : Run) (o' : List ℤ) → out t' o' ≡ turn_of t (get_or bytes i 0) o
       → Taking s bytes o₀ t' o' (suc i)
@@ -150,14 +135,3 @@ module _ {s : Run} {bytes : List ℕ} {o₀ : List ℤ} {t : Run} {o : List ℤ}
   pub taking-end : length bytes ≤ i → out t o ≡ run_of s bytes o₀
   taking-end l =
       sym (T.whole ∙ ap (λ (bs : List ℕ). run_of t bs o) (drop_of_length-le bytes l) ∙ run_none t o)
-
--- ---- how it ends
-
-pub end_fault : (s : Run) → (s.fault ≡ 0 → ⊥) → s.fault ≡ end_of s
-end_fault s h = rw (ne_eqb s.fault 0 h)
-
-pub end_none : (s : Run) → s.fault ≡ 0 → s.count ≡ 0 → 0 ≡ end_of s
-end_none s h k = rw (eq-eqb s.fault 0 h, eq-eqb s.count 0 k)
-
-pub end-held : (s : Run) → s.fault ≡ 0 → (s.count ≡ 0 → ⊥) → 11 ≡ end_of s
-end-held s h k = rw (eq-eqb s.fault 0 h, ne_eqb s.count 0 k)

@@ -1,5 +1,6 @@
 -- Some lanes' bytes worked out.
-use Rattle.std.specs.Prelude.{◌≡◌, refl, [], ◌∷◌, pos, negsuc}
+use Rattle.std.specs.Prelude.{◌≡◌, refl, [], ◌∷◌, pos, negsuc, Some, None}
+use Rattle.limits.specs.declared.Refusal.TheVariants.{NoEnd, AnotherForm}
 use Rattle.vint.specs.Vint.{vint_bytes, take_vint, answer_of}
 use Rattle.reading_run.specs.Readings.{readings_bytes, split, split_up, vints_of, readings_in}
 
@@ -13,11 +14,11 @@ written_cases = (refl, refl)
 
 -- RULES AB11. And read: whole; cut in the third vint; five bytes without an end behind the first; an empty last group
 -- behind the first; no byte at all.
-pub read_cases : (vints_of (0x81 ∷ 0x80 ∷ 0x00 ∷ 0x81 ∷ []) ≡ split (1 ∷ 0 ∷ 128 ∷ []) 0)
+pub read_cases : (vints_of (0x81 ∷ 0x80 ∷ 0x00 ∷ 0x81 ∷ []) ≡ split (1 ∷ 0 ∷ 128 ∷ []) None)
     × (readings_in (vints_of (0x81 ∷ 0x80 ∷ 0x00 ∷ 0x81 ∷ [])) ≡ negsuc 0 ∷ negsuc 0 ∷ pos 63 ∷ [])
-    × (vints_of (0x81 ∷ 0x80 ∷ 0x00 ∷ []) ≡ split (1 ∷ 0 ∷ []) 11)
-    × (vints_of (0x81 ∷ 1 ∷ 1 ∷ 1 ∷ 1 ∷ 1 ∷ 0x81 ∷ []) ≡ split (1 ∷ []) 11)
-    × (vints_of (0x81 ∷ 1 ∷ 0x80 ∷ 0x81 ∷ []) ≡ split (1 ∷ []) 12)
-    × (vints_of [] ≡ split [] 0)
+    × (vints_of (0x81 ∷ 0x80 ∷ 0x00 ∷ []) ≡ split (1 ∷ 0 ∷ []) (Some NoEnd))
+    × (vints_of (0x81 ∷ 1 ∷ 1 ∷ 1 ∷ 1 ∷ 1 ∷ 0x81 ∷ []) ≡ split (1 ∷ []) (Some NoEnd))
+    × (vints_of (0x81 ∷ 1 ∷ 0x80 ∷ 0x81 ∷ []) ≡ split (1 ∷ []) (Some AnotherForm))
+    × (vints_of [] ≡ split [] None)
 unfolding split_up take_vint answer_of
 read_cases = (refl, refl, refl, refl, refl, refl)

@@ -1,9 +1,8 @@
 -- RULES AB4, AB5. Document 02, Four: the bytes of readings, and what bytes come to as readings. Which vints are
 -- accepted, and by which number others are refused, is the vint reader's alone: a rule on that changes nothing here.
-use Rattle.std.specs.Prelude.{ℕ, zero, suc, List, [], ◌∷◌, ◌++◌, length, drop, ℤ, pos}
-use Rattle.vint.specs.declared.Unvint.{Unvint}
-use Rattle.vint.specs.declared.Unvint.TheVariants.{Number, Refused}
-use Rattle.vint.specs.Vint.{write_vint, take_vint, answer_of, read_vint}
+use Rattle.std.specs.Prelude.{ℕ, zero, suc, List, [], ◌∷◌, ◌++◌, length, drop, ℤ, pos, Option, Some, None, Ok, Err}
+use Rattle.limits.specs.declared.Refusal.{Refusal}
+use Rattle.vint.specs.Vint.{Unvint, write_vint, take_vint, answer_of, read_vint}
 use Rattle.signed.specs.Signed.{Signed32, difference, following, stored, unstored}
 
 -- ---- written
@@ -24,15 +23,15 @@ AllSigned (r ∷ rs) = Signed32 r × AllSigned rs
 
 -- ---- read
 
--- RULES AB5. The numbers of the whole vints that bytes begin with, and how they end: 0 where they split into whole
--- vints, else the number by which the reader refuses the next one.
+-- RULES AB5. The numbers of the whole vints that bytes begin with, and how they end: none where they split into
+-- whole vints, else why the reader refuses the next one.
 pub record Split : Type 0 where
   pub numbers : List ℕ
-  pub refusal : ℕ
+  pub refusal : Option Refusal
 
 -- RULES AB5. Both put together.
-abbrev pub split : List ℕ → ℕ → Split
-split ns n = record { numbers = ns; refusal = n }
+abbrev pub split : List ℕ → Option Refusal → Split
+split ns r = record { numbers = ns; refusal = r }
 
 -- RULES AB5. A number in front.
 abbrev pub in_front : ℕ → Split → Split
@@ -40,14 +39,14 @@ in_front u s = split (u ∷ s.numbers) s.refusal
 
 -- RULES AB5. What the reader says of bytes, and what follows from the bytes behind those it took.
 abbrev pub on_vint : Unvint → List ℕ → (List ℕ → Split) → Split
-on_vint (Number u k) bs rest = in_front u (rest (drop k bs))
-on_vint (Refused n) bs rest = split [] n
+on_vint (Ok r) bs rest = in_front r.number (rest (drop r.taken bs))
+on_vint (Err r) bs rest = split [] (Some r)
 
 -- RULES AB5. At most f vints, one after the other.
 unfoldable pub split_up : ℕ → List ℕ → Split
 unfolding take_vint answer_of
-split_up zero bs = split [] 0
-split_up (suc f) [] = split [] 0
+split_up zero bs = split [] None
+split_up (suc f) [] = split [] None
 split_up (suc f) (b ∷ bs) = on_vint (read_vint (b ∷ bs)) (b ∷ bs) (λ rest. split_up f rest)
 
 -- RULES AB5. All of them: a vint has a byte at least.

@@ -7,12 +7,11 @@
 // store_state, store_create, store_look, store_append and history, and the crates of the store's types.
 #![tactic(auto)]
 
-ghost use Rattle.std.specs.Prelude.{◌≡◌, ◌≤◌, length};
+ghost use Rattle.std.specs.Prelude.{◌≡◌};
 ghost use Rattle.store_look.specs.Look.{lent};
-ghost use Rattle.history.specs.History.{play, state_after};
-ghost use Rattle.replay.specs.Script.{world, calls_of, played, out, replay_of, Replayed};
+ghost use Rattle.history.specs.History.{appends, after, play, state_after};
+ghost use Rattle.replay.specs.Script.{world, calls_of, out, replay_of, Replayed};
 
-use entries::Next;
 use store_append::Appended;
 use store_create::Created;
 use store_state::State;
@@ -21,8 +20,7 @@ fn state_of(a: Appended) -> State
     ensures { result ≡ state_after a }
 {
     match a {
-        Appended::Accepted(st) => st,
-        Appended::Declined(st, _) => st,
+        Appended::Accepted(st) | Appended::Declined(st, _) => st,
     }
 }
 
@@ -32,28 +30,14 @@ fn play_entry(
     table: &mut [u32],
     keys: &mut [u8],
     lists: &mut [u8],
-    script: &[u8],
-    name: usize,
-    name_end: usize,
-    from: usize,
-    to: usize,
+    name: &[u8],
+    bytes: &[u8],
 ) -> State
-    requires { (name ≤ name_end)
-        × ((name_end ≤ length script.now) × ((from ≤ to) × (to ≤ length script.now))) }
     ensures { world result (lent table.new keys.new lists.new)
-        ≡ played st (lent table.old keys.old lists.old) script.now
-        name name_end from to }
+        ≡ after (appends name.now bytes.now) (world st (lent table.old keys.old lists.old)) }
 {
-    let a = store_append::append(
-        st,
-        table,
-        keys,
-        lists,
-        &script[name..name_end],
-        &script[from..to],
-    );
-    let answer = a.answer;
-    state_of(answer)
+    let a = store_append::append(st, table, keys, lists, name, bytes);
+    state_of(a.answer)
 }
 
 // All entries, in order.
@@ -70,25 +54,11 @@ fn play_script(
 {
     let mut state = st;
     let mut at = 0;
-    let mut turns = script.len();
-    while 0 < turns {
-        let e = entries::entry_at(script, at);
-        let Next::Whole(name_end, from, to) = e else {
-            return state;
-        };
-        state = play_entry(
-            state,
-            table,
-            keys,
-            lists,
-            script,
-            at + 2,
-            name_end,
-            from,
-            to,
-        );
-        at = to;
-        turns = turns - 1;
+    while let Some(e) = entries::entry_at(script, at) {
+        let name = &script[at + 2..e.name_end];
+        let bytes = &script[e.from..e.to];
+        state = play_entry(state, table, keys, lists, name, bytes);
+        at = e.to;
     }
     state
 }

@@ -14,10 +14,11 @@ use borrow.Author.Tests.{ltb-false, le-ltb, le-leb, lt-leb, eq-eqb, ne_eqb}
 use Rattle.numbers.specs.LittleEndian.{Bytes}
 use Rattle.numbers.proofs.Tests.{not_both}
 use Rattle.limits.specs.Limits.{vint_limit, fifth_limit}
-use Rattle.vint.specs.declared.Unvint.TheVariants.{Number, Refused}
-use Rattle.vint.specs.Vint.{vint_bytes, write_vint, Taken, ended, unended, take_vint, last_group, is_another_form}
-use Rattle.vint.specs.Vint.{answer_of, read_vint, AcceptedFor}
-use Rattle.vint.proofs.Laws.{below_or, write_last, write_on, reach, length_most, take_back}
+use Rattle.std.specs.Prelude.{Err}
+use Rattle.limits.specs.declared.Refusal.TheVariants.{AnotherForm}
+use Rattle.vint.specs.Vint.{Unvint, number, vint_bytes, write_vint, Taken, ended, unended, take_vint, last_group, is_another_form}
+use Rattle.vint.specs.Vint.{length_most, answer_of, read_vint, AcceptedFor}
+use Rattle.vint.proofs.Laws.{below_or, write_last, write_on, reach, take_back, same_number}
 use Rattle.vint.proofs.Laws.{Took, took_last, took-on, took, taken-within, LastByte}
 
 -- ---- powers and last groups
@@ -90,27 +91,26 @@ small h (took_last p) = omega (arith, h.0)
 small h (took-on {w} {b} {v} {k} p t) = rw pow-suc (omega (arith, small h.1 t))
 
 -- what is accepted for a number is what is written for it, and the number has 32 bits
-pub one_form : (bs : List ℕ) (n k : ℕ) → Bytes bs → read_vint bs ≡ Number n k
+pub one_form : (bs : List ℕ) (n k : ℕ) → Bytes bs → read_vint bs ≡ number n k
     → (take k bs ≡ write_vint n) × (n < 2 ^ 32)
 unfolding answer_of
 one_form bs n k h e = go (take_vint vint_limit bs) refl e
   where
     held : (v j : ℕ) → take_vint vint_limit bs ≡ ended v j → (t : Bool) → is_another_form j (last_group v j) ≡ t
-        → cond t (Refused 12) (Number v j) ≡ Number n k → (take k bs ≡ write_vint n) × (n < 2 ^ 32)
-    held v j f true p e = let z : ◌≡◌ {A = ℕ} 0 1 = cc in absurd (omega arith)
+        → ◌≡◌ {A = Unvint} (cond t (Err AnotherForm) (number v j)) (number n k) → (take k bs ≡ write_vint n) × (n < 2 ^ 32)
+    held v j f true p e = cc
     held v j f false p e =
-        let x : v ≡ n = cc in
-        let y : j ≡ k = cc in
+        let (x, y) = same_number v j n k e in
         let T = took vint_limit bs v j f in
         rw (← x, ← y) (
           form h T (λ l. group_some v j (last_some j (last_group v j) p l)),
           number_fits j v (taken-within T).1.0 (small h T) p,
         )
 
-    go : (t : Taken) → take_vint vint_limit bs ≡ t → answer_of t ≡ Number n k
+    go : (t : Taken) → take_vint vint_limit bs ≡ t → answer_of t ≡ number n k
         → (take k bs ≡ write_vint n) × (n < 2 ^ 32)
     go (ended v j) f e = held v j f (is_another_form j (last_group v j)) refl e
-    go unended f e = let z : ◌≡◌ {A = ℕ} 0 1 = cc in absurd (omega arith)
+    go unended f e = cc
 
 -- ---- and the written form is accepted
 
@@ -142,7 +142,7 @@ written_some (suc w) n h l =
         (below_or m 2)
 
 -- a number of 32 bits whose last group is some is accepted
-own_form : (v k : ℕ) → k ≤ 5 → v < 2 ^ 32 → (2 ≤ k → 128 ^ (k - 1) ≤ v) → answer_of (ended v k) ≡ Number v k
+own_form : (v k : ℕ) → k ≤ 5 → v < 2 ^ 32 → (2 ≤ k → 128 ^ (k - 1) ≤ v) → answer_of (ended v k) ≡ number v k
 unfolding answer_of
 own_form v k l h f = rw (high, empty)
   where
@@ -162,7 +162,7 @@ own_form v k l h f = rw (high, empty)
 
 -- a number written as a vint reads back as itself, whatever follows, and takes the bytes written
 pub read_back : (n : ℕ) (rest : List ℕ) → n < 2 ^ 32
-    → read_vint (write_vint n ++ rest) ≡ Number n (length (write_vint n))
+    → read_vint (write_vint n ++ rest) ≡ number n (length (write_vint n))
 read_back n rest h =
     ap answer_of (take_back 4 n rest (omega arith))
     ∙ own_form n (length (write_vint n)) (length_most 5 n) h (written_some 4 n (omega arith))
@@ -194,12 +194,12 @@ module _ (sum unit group taken : ℕ) (h : LastByte sum unit group taken) where
   unit_most =
       rw h.1.1.0 (pow-le-pow_right {n = 128} (omega arith) {i = taken - 1} {j = 4} (omega (arith, h.1.0)))
 
-  pub answers_12 : is_another_form taken group ≡ true → Refused 12 ≡ answer_of (ended (sum + unit * group) taken)
+  pub answers_another : is_another_form taken group ≡ true → ◌≡◌ {A = Unvint} (Err AnotherForm) (answer_of (ended (sum + unit * group) taken))
   unfolding answer_of
-  answers_12 e = rw (group_is, e)
+  answers_another e = rw (group_is, e)
 
   pub answers_number : is_another_form taken group ≡ false
-      → Number (sum + unit * group) taken ≡ answer_of (ended (sum + unit * group) taken)
+      → number (sum + unit * group) taken ≡ answer_of (ended (sum + unit * group) taken)
   unfolding answer_of
   answers_number e = rw (group_is, e)
 

@@ -1,24 +1,28 @@
 -- Laws of vints, over the number of bytes where that makes sense. Assumes nothing.
-use Prim.Native.Nat.{ℕ, zero, suc, ◌+◌, ◌-◌, ◌*◌, ◌/◌, ◌%◌, ◌^◌, ◌≤◌, ◌<◌, zero-le}
+use Prim.Native.Nat.{ℕ, zero, suc, ◌+◌, ◌-◌, ◌*◌, ◌/◌, ◌%◌, ◌^◌, ◌≤◌, ◌<◌, zero-le, min}
 use mathlib.Core.Path.{◌≡◌, refl, sym, ap, ◌∙◌, subst}
 use mathlib.Core.Logic.{◌⊎◌, inl, inr, ⊎_elim}
-use mathlib.Core.Bool.{Bool, true, false, cond, ◌&&◌}
+use mathlib.Core.Bool.{Bool, true, false, cond}
 use mathlib.Core.List.{List, [], ◌∷◌, ◌++◌}
 use native.Mathlib.Nat.{mul-add, mul_assoc, pow-suc, mul-le-mul_left, pow-le-pow_right, sub-zero}
 use native.Mathlib.Numerals.{add-one}
 use native.Mathlib.Omega.{arith}
+use native.Mathlib.Bridge.{le_prop}
+use mathlib.Core.HLevel.{is_prop→PathP}
 use lib.Dec.{ltb}
 use lib.ListN.{length, take, drop, get_or, set, replicate, length-append, length-set, drop_of_length-le}
 use lib.Seq.{drop-cons, drop-set-lt, take-suc-set, set_split, length-take-le, append_snoc}
 use borrow.Author.Tests.{ltb-true, ltb-false, lt-ltb, le-ltb, le-leb, lt-leb}
 use Rattle.numbers.specs.LittleEndian.{Bytes}
-use Rattle.numbers.proofs.Tests.{both}
 use Rattle.limits.specs.Refusals.{unvinting, permitted}
 use Rattle.limits.specs.Limits.{vint_limit}
-use Rattle.vint.specs.declared.Unvint.{Unvint}
-use Rattle.vint.specs.declared.Unvint.TheVariants.{Number, Refused}
-use Rattle.vint.specs.Vint.{vint_bytes, write_vint, TopOnLast, Taken, ended, unended, grouped, take_vint}
-use Rattle.vint.specs.Vint.{last_group, is_another_form, answer_of, read_vint, said_unvint}
+use Rattle.std.specs.Prelude.{Err}
+use Rattle.limits.specs.declared.Refusal.{Refusal}
+use Rattle.limits.specs.declared.Refusal.TheVariants.{NoEnd, AnotherForm}
+use Rattle.vint.specs.declared.Read.{Read}
+use Rattle.vint.specs.declared.written.Vint.{Vint}
+use Rattle.vint.specs.Vint.{Unvint, number, vint_bytes, write_vint, TopOnLast, Taken, ended, unended, grouped, take_vint}
+use Rattle.vint.specs.Vint.{length_most, last_group, is_another_form, answer_of, read_vint, said_unvint}
 
 -- a number is below another or not
 pub below_or : (n k : ℕ) → (n < k) ⊎ (k ≤ n)
@@ -66,16 +70,6 @@ second (suc zero) n h k = omega arith
 second (suc (suc w)) n h k = omega arith
 
 -- ---- the writer's bytes
-
-pub length_most : (w n : ℕ) → length (vint_bytes w n) ≤ w
-unfolding vint_bytes
-length_most zero n = omega arith
-length_most (suc w) n = go (ltb n 128) (length_most w (n / 128))
-  where
-    go : (t : Bool) → length (vint_bytes w (n / 128)) ≤ w
-        → length (cond t ((n + 128) ∷ []) (n % 128 ∷ vint_bytes w (n / 128))) ≤ suc w
-    go true h = omega arith
-    go false h = omega arith
 
 -- 1 to 5 bytes
 pub vint_length : (n : ℕ) → (1 ≤ length (write_vint n)) × (length (write_vint n) ≤ vint_limit)
@@ -245,6 +239,14 @@ module _ {w n : ℕ} {bytes : List ℕ} {rest at : ℕ} (h : Writing w n bytes r
       ∙ rw (← written_length k, bytes_are k, free_after)
       (sym (append_snoc (take at bytes) (rest + 128) (replicate (w - suc at) 0)))
 
+-- two vints by value with the same bytes and the same count are one
+pub same_vint : (v w : Vint) → v.bytes ≡ w.bytes → v.count ≡ w.count → v ≡ w
+same_vint v w b c = λ i. record {
+  bytes = b i;
+  count = c i;
+  within = is_prop→PathP (λ j. c j ≤ vint_limit) (λ j. le_prop) v.within w.within i;
+}
+
 -- ---- the reader's loop
 
 -- groups so far, their sum and the next one's unit, in front of what is taken from there
@@ -258,17 +260,6 @@ behind-grouped s u i b (ended v k) =
     let y : i + suc k ≡ suc i + k = omega arith in
     rw (x, y)
 behind-grouped s u i b unended = refl
-
--- the loop's test
-pub goes_on : (at w l : ℕ) → (ltb at w && ltb at l) ≡ true → (at < w) × (at < l)
-goes_on at w l e = let p = both (ltb at w) (ltb at l) e in (ltb-true at w p.0, ltb-true at l p.1)
-
-pub stops : (at w l : ℕ) → (ltb at w && ltb at l) ≡ false → (w ≤ at) ⊎ (l ≤ at)
-stops at w l e = go (ltb at w) refl e
-  where
-    go : (t : Bool) → ltb at w ≡ t → (t && ltb at l) ≡ false → (w ≤ at) ⊎ (l ≤ at)
-    go true x e = inr (ltb-false at l e)
-    go false x e = inl (ltb-false at w x)
 
 -- some bytes are taken, none with the top bit: what is taken in all is their sum, with the unit times what is taken
 -- from there
@@ -337,25 +328,32 @@ module _ {w : ℕ} {bs : List ℕ} {sum unit at : ℕ} (h : Reading w bs sum uni
       ∙ ap (behind sum unit at) (next i j ∙ take_last (w - suc at) (get_or bs at 0) (drop (suc at) bs) k)
       ∙ ap (ended (sum + unit * (get_or bs at 0 - 128))) (add-one at)
 
-  pub reading_stops : (w ≤ at) ⊎ (length bs ≤ at) → take_vint w bs ≡ unended
-  reading_stops k = h.whole ∙ ap (behind sum unit at) (⊎_elim none_left none_there k)
+  pub reading_stops : min (length bs) w ≤ at → take_vint w bs ≡ unended
+  reading_stops k = h.whole ∙ ap (behind sum unit at) (⊎_elim none_there none_left (below_or at w))
     where
       none_left : w ≤ at → take_vint (w - at) (drop at bs) ≡ unended
       none_left i = let z : w - at ≡ 0 = omega arith in rw z (take_none (drop at bs))
 
-      none_there : length bs ≤ at → take_vint (w - at) (drop at bs) ≡ unended
-      none_there i = rw (drop_of_length-le bs i) (take_nothing (w - at))
+      none_there : at < w → take_vint (w - at) (drop at bs) ≡ unended
+      none_there i = let j : length bs ≤ at = omega arith in rw (drop_of_length-le bs j) (take_nothing (w - at))
 
--- a refusal's number is 11 or 12
-pub refusal_listed : (bs : List ℕ) (n : ℕ) → read_vint bs ≡ Refused n → (n ≡ 11) ⊎ (n ≡ 12)
+-- answers of two numbers that are equal tell the same
+pub same_number : (v j n k : ℕ) → number v j ≡ number n k → (v ≡ n) × (j ≡ k)
+same_number v j n k e =
+    let r : ◌≡◌ {A = Read} (record { number = v; taken = j }) (record { number = n; taken = k }) = cc in
+    (ap (λ (x : Read). x.number) r, ap (λ (x : Read). x.taken) r)
+
+-- a refusal is of a vint without an end or in another form
+pub refusal_listed : (bs : List ℕ) (r : Refusal) → read_vint bs ≡ Err r → (r ≡ NoEnd) ⊎ (r ≡ AnotherForm)
 unfolding answer_of
-refusal_listed bs n e = go (take_vint vint_limit bs) e
+refusal_listed bs r e = go (take_vint vint_limit bs) e
   where
-    either : (c : Bool) (v k : ℕ) → cond c (Refused 12) (Number v k) ≡ Refused n → (n ≡ 11) ⊎ (n ≡ 12)
+    either : (c : Bool) (v k : ℕ) → ◌≡◌ {A = Unvint} (cond c (Err AnotherForm) (number v k)) (Err r)
+        → (r ≡ NoEnd) ⊎ (r ≡ AnotherForm)
     either true v k e = inr cc
-    either false v k e = let z : ◌≡◌ {A = ℕ} 0 1 = cc in absurd (omega arith)
+    either false v k e = cc
 
-    go : (t : Taken) → answer_of t ≡ Refused n → (n ≡ 11) ⊎ (n ≡ 12)
+    go : (t : Taken) → answer_of t ≡ Err r → (r ≡ NoEnd) ⊎ (r ≡ AnotherForm)
     go (ended v k) e = either (is_another_form k (last_group v k)) v k e
     go unended e = inl cc
 
@@ -365,7 +363,7 @@ pub answers : (bs : List ℕ) (t : Taken) (r : Unvint) → take_vint vint_limit 
 unfolding answer_of
 answers bs t r e f = (f ∙ sym (ap answer_of e), rw f (known t))
   where
-    either : (c : Bool) (v k : ℕ) → permitted unvinting (said_unvint (cond c (Refused 12) (Number v k))) ≡ true
+    either : (c : Bool) (v k : ℕ) → permitted unvinting (said_unvint (cond c (Err AnotherForm) (number v k))) ≡ true
     either true v k = refl
     either false v k = refl
 

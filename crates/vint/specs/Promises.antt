@@ -3,16 +3,15 @@
 use Rattle.std.specs.Prelude.{ℕ, ◌%◌, ◌^◌, ◌≤◌, ◌<◌, ◌≡◌, List, ◌++◌, length, take}
 use Rattle.limits.specs.Limits.{vint_limit}
 use Rattle.numbers.specs.LittleEndian.{Bytes}
-use Rattle.vint.specs.declared.Unvint.TheVariants.{Number}
-use Rattle.vint.specs.Vint.{write_vint, TopOnLast, ended, take_vint, read_vint, AcceptedFor}
+use Rattle.vint.specs.Vint.{number, write_vint, TopOnLast, ended, take_vint, read_vint, AcceptedFor}
 
 -- RULES K5, K6. With it what K1 and K2 say of the writer.
 pub record Promises : Type 0 where
   -- RULES K5. "A number written as a vint reads back as itself", whatever follows, and takes the bytes written.
   pub read_back : (n : ℕ) (rest : List ℕ) → n < 2 ^ 32 → read_vint (write_vint n ++ rest)
-      ≡ Number n (length (write_vint n))
+      ≡ number n (length (write_vint n))
   -- RULES K6. And what was read is written as the bytes that were taken: the two are inverse both ways.
-  pub one_form : (bs : List ℕ) (n k : ℕ) → Bytes bs → read_vint bs ≡ Number n k
+  pub one_form : (bs : List ℕ) (n k : ℕ) → Bytes bs → read_vint bs ≡ number n k
       → (take k bs ≡ write_vint n) × (n < 2 ^ 32)
   -- RULES K6. "Each number has exactly one accepted form": at least this one, and no two.
   pub accepted : (n : ℕ) → n < 2 ^ 32 → AcceptedFor n (write_vint n)

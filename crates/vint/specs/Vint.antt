@@ -1,12 +1,14 @@
 -- RULES K. Document 01, "Hash and vint": a vint is seven bits a byte, low group first, the top bit (128) set on the
 -- last byte only. Document 02, Five: which of them are accepted. What is taken from bytes and what that answers are two
 -- definitions: a rule on which vints are accepted changes the second alone.
-use Rattle.std.specs.Prelude.{ℕ, zero, suc, ◌+◌, ◌-◌, ◌*◌, ◌/◌, ◌%◌, ◌^◌, ◌≤◌, ◌<◌, ◌≡◌, refl, Bool, cond, ◌&&◌, ◌||◌, List, [], ◌∷◌, ◌++◌, leb, ltb, eqb, length, replicate}
+use Rattle.std.specs.Prelude.{ℕ, zero, suc, ◌+◌, ◌-◌, ◌*◌, ◌/◌, ◌%◌, ◌^◌, ◌≤◌, ◌<◌, ◌≡◌, refl, Bool, true, false, cond, ◌&&◌, ◌||◌, List, [], ◌∷◌, ◌++◌, leb, ltb, eqb, length, replicate, Result, Ok, Err}
+use Rattle.std.proofs.Common.{arith}
 use Rattle.limits.specs.Limits.{vint_limit, fifth_limit}
-use Rattle.limits.specs.Refusals.{Said, answered, refused, a_number, one-outcome}
-use Rattle.vint.specs.declared.Vint.{Vint}
-use Rattle.vint.specs.declared.Unvint.{Unvint}
-use Rattle.vint.specs.declared.Unvint.TheVariants.{Number, Refused}
+use Rattle.limits.specs.Refusals.{Said, answered, refused, a_number, number_of, one-outcome}
+use Rattle.limits.specs.declared.Refusal.{Refusal}
+use Rattle.limits.specs.declared.Refusal.TheVariants.{NoEnd, AnotherForm}
+use Rattle.vint.specs.declared.written.Vint.{Vint}
+use Rattle.vint.specs.declared.Read.{Read}
 
 -- ---- the writer
 
@@ -19,10 +21,24 @@ vint_bytes (suc w) n = cond (ltb n 128) ((n + 128) ∷ []) (n % 128 ∷ vint_byt
 abbrev pub write_vint : ℕ → List ℕ
 write_vint n = vint_bytes vint_limit n
 
+-- RULES K2. No more than may be.
+pub length_most : (w n : ℕ) → length (vint_bytes w n) ≤ w
+unfolding vint_bytes
+length_most zero n = omega arith
+length_most (suc w) n = go (ltb n 128) (length_most w (n / 128))
+  where
+    go : (t : Bool) → length (vint_bytes w (n / 128)) ≤ w
+        → length (cond t ((n + 128) ∷ []) (n % 128 ∷ vint_bytes w (n / 128))) ≤ suc w
+    go true h = omega arith
+    go false h = omega arith
+
 -- RULES K2. The same by value: the bytes, zeros after them, and how many they are.
 abbrev pub vint_of : ℕ → Vint
-vint_of n =
-    record { bytes = write_vint n ++ replicate (vint_limit - length (write_vint n)) 0; count = length (write_vint n) }
+vint_of n = record {
+  bytes = write_vint n ++ replicate (vint_limit - length (write_vint n)) 0;
+  count = length (write_vint n);
+  within = length_most vint_limit n;
+}
 
 -- RULES K1. The top bit is set on the last byte only.
 abbrev pub TopOnLast : List ℕ → Type 0
@@ -57,10 +73,17 @@ last_group v k = v / 128 ^ (k - 1)
 abbrev pub is_another_form : ℕ → ℕ → Bool
 is_another_form k g = (eqb k vint_limit && ltb fifth_limit g) || (leb 2 k && eqb g 0)
 
+-- RULES K3. What the reader answers, and what it answers of a number v read from k bytes.
+abbrev pub Unvint : Type 0
+Unvint = Result Read Refusal
+
+abbrev pub number : ℕ → ℕ → Unvint
+number v k = Ok (record { number = v; taken = k })
+
 -- RULES K4. The sum and the bytes taken; 12 where it isn't its number's one form; without an end, 11.
 unfoldable pub answer_of : Taken → Unvint
-answer_of (ended v k) = cond (is_another_form k (last_group v k)) (Refused 12) (Number v k)
-answer_of unended = Refused 11
+answer_of (ended v k) = cond (is_another_form k (last_group v k)) (Err AnotherForm) (number v k)
+answer_of unended = Err NoEnd
 
 -- RULES K4. Of at most five bytes.
 abbrev pub read_vint : List ℕ → Unvint
@@ -68,12 +91,12 @@ read_vint bs = answer_of (take_vint vint_limit bs)
 
 -- RULES K6. Bytes that are a number's accepted form: the reader takes them all and answers the number.
 abbrev pub AcceptedFor : ℕ → List ℕ → Type 0
-AcceptedFor n bs = read_vint bs ≡ Number n (length bs)
+AcceptedFor n bs = read_vint bs ≡ number n (length bs)
 
 -- RULES X7. What the reader's answer says.
 abbrev pub said_unvint : Unvint → Said
-said_unvint (Number v k) = answered a_number (v ∷ k ∷ [])
-said_unvint (Refused n) = refused n []
+said_unvint (Ok r) = answered a_number (r.number ∷ r.taken ∷ [])
+said_unvint (Err r) = refused (number_of r) []
 
 -- RULES X7. A row a case: what the call says then.
 pub said_cases : (said_unvint (read_vint (0x2C ∷ 0x82 ∷ [])) ≡ answered a_number (300 ∷ 2 ∷ []))

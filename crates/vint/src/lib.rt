@@ -11,18 +11,16 @@ ghost use Rattle.std.specs.Prelude.{◌≡◌, true, ◌+◌, ◌-◌, ◌*◌, 
 ghost use Rattle.limits.specs.Refusals.{unvinting, permitted};
 ghost use Rattle.vint.specs.Vint.{vint_of, ended, is_another_form, answer_of, read_vint, said_unvint};
 
-// A vint by value: its bytes, zeros after them, and how many they are.
-#[derive(Clone, Copy)]
-pub struct Vint {
-    pub bytes: [u8; limits::VINT_LIMIT],
-    pub count: usize,
-}
+mod written;
 
-// A number and the bytes taken for it, or a refusal's number.
-#[derive(Clone, Copy)]
-pub enum Unvint {
-    Number(u32, usize),
-    Refused(u32),
+use limits::Refusal;
+pub use written::Vint;
+
+// A number that was read, and how many bytes were taken for it.
+#[derive(Clone, Copy, Debug, PartialEq, Eq)]
+pub struct Read {
+    pub number: u32,
+    pub taken: usize,
 }
 
 // The lowest group, for a byte that isn't the last.
@@ -47,9 +45,10 @@ pub fn serialize_vint_u32(n: u32) -> Vint
     let mut bytes = [0u8; limits::VINT_LIMIT];
     let mut rest = n;
     let mut at: usize = 0;
+    // a `for` over the places would have an end that is never reached
     while 128 <= rest {
         bytes[at] = low(rest);
-        rest = rest / 128;
+        rest /= 128;
         at += 1;
     }
     bytes[at] = last(rest);
@@ -75,33 +74,31 @@ fn is_another_form(taken: usize, group: u8) -> bool
 }
 
 // What a vint answers: by its last group, which stands for that many units, the sum before it and the bytes taken.
-fn answered(sum: u64, unit: u64, group: u8, taken: usize) -> Unvint
+fn answered(sum: u64, unit: u64, group: u8, taken: usize) -> Result<Read, Refusal>
     requires { (1 ≤ taken) × ((taken ≤ 5) × ((unit ≡ 128 ^ (taken - 1)) × ((sum < unit) × (group < 128)))) }
     ensures { result ≡ answer_of (ended (sum + unit * group) taken) }
 {
     if is_another_form(taken, group) {
-        return Unvint::Refused(12);
+        return Err(Refusal::AnotherForm);
     }
-    let number = plus(sum, unit, group);
-    Unvint::Number(number as u32, taken)
+    let number = plus(sum, unit, group) as u32;
+    Ok(Read { number, taken })
 }
 
 // The number that bytes begin with, as a vint.
-pub fn read_u32_vint(bytes: &[u8]) -> Unvint
+pub fn read_u32_vint(bytes: &[u8]) -> Result<Read, Refusal>
     ensures settled { result ≡ read_vint bytes.now }
     ensures numbered { permitted unvinting (said_unvint result) ≡ true }
 {
     let mut sum: u64 = 0;
     let mut unit: u64 = 1;
-    let mut at: usize = 0;
-    while (at < limits::VINT_LIMIT) & (at < bytes.len()) {
-        let b = bytes[at];
+    let most = bytes.len().min(limits::VINT_LIMIT);
+    for (at, &b) in bytes[..most].iter().enumerate() {
         if 128 <= b {
             return answered(sum, unit, b - 128, at + 1);
         }
         sum = plus(sum, unit, b);
-        unit = unit * 128;
-        at += 1;
+        unit *= 128;
     }
-    Unvint::Refused(11)
+    Err(Refusal::NoEnd)
 }

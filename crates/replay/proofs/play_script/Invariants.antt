@@ -1,17 +1,15 @@
-use Rattle.replay.proofs.Laws.{calls_from}
-use Rattle.replay.specs.Script.{world, calls_of}
-use Rattle.history.specs.History.{play}
-use Rattle.store_look.specs.Look.{lent}
+-- `replay::play_script` meets its contract: what is left of the script is played on what stands. Assumes nothing.
+use Prim.Native.Nat.{◌-◌}
 use lib.ListN.{length}
-use mathlib.Core.Path.{◌≡◌}
-use Prim.Native.Nat.{◌≤◌}
+use Rattle.store_look.specs.Look.{lent}
+use Rattle.replay.specs.Script.{world}
+use Rattle.replay.proofs.Laws.{Playing}
 use Rattle.replay.proofs.play_script.Given as goal
 
-abbrev pub invariant-loop-turns : goal.invariant-loop-turns
-invariant-loop-turns l = (l.at ≤ length l.script) × ((length l.table ≡ length l.initial.table)
-    × ((length l.keys ≡ length l.initial.keys) × ((length l.lists ≡ length l.initial.lists)
-    × (play (calls_of l.script) (world l.initial.state (lent l.initial.table l.initial.keys l.initial.lists))
-    ≡ play (calls_from l.turns l.script l.at) (world l.state (lent l.table l.keys l.lists))))))
+abbrev pub invariant-loop-e : goal.invariant-loop-e
+invariant-loop-e l =
+    Playing l.script (world l.initial.state (lent l.initial.table l.initial.keys l.initial.lists))
+    (world l.state (lent l.table l.keys l.lists)) l.at
 
-abbrev pub decreases-loop-turns : goal.decreases-loop-turns
-decreases-loop-turns l = l.turns
+abbrev pub decreases-loop-e : goal.decreases-loop-e
+decreases-loop-e l = length l.script - l.at

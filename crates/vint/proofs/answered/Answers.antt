@@ -3,20 +3,20 @@
 use Prim.Native.Nat.{ℕ}
 use mathlib.Core.Path.{sym, ap, ◌∙◌}
 use native.Mathlib.Omega.{arith}
-use Rattle.vint.specs.declared.Unvint.TheVariants.{Number}
-use Rattle.vint.proofs.Forms.{unit_most, answers_12, answers_number, answer_fits}
+use Rattle.vint.specs.Vint.{number}
+use Rattle.vint.proofs.Forms.{unit_most, answers_another, answers_number, answer_fits}
 use Rattle.vint.proofs.answered.Goals as goal
 
 pub returns-then-is_another_form : goal.returns-then-is_another_form
 returns-then-is_another_form c =
-    let a = c.args in answers_12 a.sum a.unit a.group a.taken c.requires (sym c.is_another_form.ensures ∙
+    let a = c.args in answers_another a.sum a.unit a.group a.taken c.requires (sym c.is_another_form.ensures ∙
     c.if-is_another_form.true)
 
 pub plus-number-requires : goal.plus-number-requires
 plus-number-requires c = let a = c.args in (unit_most a.sum a.unit a.group a.taken c.requires, c.requires.1.1.1.0)
 
-pub overflow_cast-result : goal.overflow_cast-result
-overflow_cast-result c =
+pub overflow_cast-number : goal.overflow_cast-number
+overflow_cast-number c =
     let own = sym c.is_another_form.ensures ∙ c.if-is_another_form.false in omega (
       arith,
       c.plus-number.ensures,
@@ -25,5 +25,5 @@ overflow_cast-result c =
 
 pub returns : goal.returns
 returns c =
-    let own = sym c.is_another_form.ensures ∙ c.if-is_another_form.false in ap (λ (v : ℕ). Number v c.args.taken)
+    let own = sym c.is_another_form.ensures ∙ c.if-is_another_form.false in ap (λ (v : ℕ). number v c.args.taken)
     c.plus-number.ensures ∙ answers_number c.args.sum c.args.unit c.args.group c.args.taken c.requires own

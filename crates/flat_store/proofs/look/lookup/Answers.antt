@@ -1,8 +1,15 @@
 -- `flat_store::look::lookup` meets its contract. Assumes nothing.
-use Rattle.flat_store.proofs.Finds.{lookup_from_lem}
+use Rattle.std.specs.Prelude.{Ok, Err}
+use Rattle.std.proofs.lemmas.Result.{err_from_is_err_and}
+use Rattle.flat_store.proofs.Finds.{lookup_is}
 use Rattle.flat_store.proofs.look.lookup.Goals as goal
 
-pub returns : goal.returns
-returns c =
-    let it = lookup_from_lem c.args.buffer.now c.args.used c.args.name.now c.find-f.result c.find-f.ensures
-    c.looked_up.result c.looked_up.ensures in record { settled = it.0; numbered = it.1 }
+pub returns-in_err-held-clause-settled : goal.returns-in_err-held-clause-settled
+returns-in_err-held-clause-settled c =
+    let p = err_from_is_err_and c.from_residual.result c.from_residual.ensures.1 in
+    rw (p.1, p.2) (lookup_is c.args.buffer.now c.args.used c.args.name.now (Err _) c.in_err-held.ensures.settled)
+
+pub returns-clause-settled : goal.returns-clause-settled
+returns-clause-settled c =
+    rw c.is_some.ensures
+    (lookup_is c.args.buffer.now c.args.used c.args.name.now (Ok _) c.in_ok-held.ensures.settled)
