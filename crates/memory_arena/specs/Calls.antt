@@ -3,15 +3,14 @@
 -- creation refuses, or a state whose page or used count exceeds it. The lowest comes first, but for one: "a senseless
 -- size in a bare arena state is 10, whatever is asked" (document 02, Nine).
 use Rattle.std.specs.Prelude.{ℕ, ◌≡◌, refl, Bool, cond, ◌&&◌, ◌||◌, List, [], ◌∷◌, ltb, eqb, length, replicate, ⊤}
-use Rattle.std.specs.Prelude.{Option, Some, None, Result, Ok, Err}
+use Rattle.std.specs.Prelude.{Some, None, Result, Ok, Err}
 use Rattle.limits.specs.Limits.{page_taken, arena_limit_for}
 use Rattle.limits.specs.Refusals.{Said, answered, refused, done, an_address, no_room, one-outcome, number_of}
 use Rattle.limits.specs.declared.Refusal.{Refusal}
 use Rattle.limits.specs.declared.Refusal.TheVariants.{WrongLength, OutOfArena}
 use Rattle.spans.specs.Span.{read_span, overwrite}
 use Rattle.memory_arena.specs.declared.Arena.{Arena}
-use Rattle.memory_arena.specs.declared.Room.{Room}
-use Rattle.memory_arena.specs.Pages.{lendable, standing, good_span, room_for}
+use Rattle.memory_arena.specs.Pages.{lendable, standing, good_span, MaybeRoom, room_for}
 
 -- RULES G1, B4, B6. A page's bytes and the lent length are such as creation takes, and the state is one of an arena of
 -- that length.
@@ -22,7 +21,7 @@ sensible a len = page_taken a.size && (lendable (arena_limit_for a.size) len && 
 -- ---- this paper's number and values of each answer
 
 -- RULES X7.
-abbrev pub said_allocated : Result (Option Room) Refusal → Said
+abbrev pub said_allocated : Result MaybeRoom Refusal → Said
 said_allocated (Ok (Some r)) = answered an_address (r.at ∷ r.after.page ∷ r.after.used ∷ r.after.size ∷ [])
 said_allocated (Ok None) = answered no_room []
 said_allocated (Err e) = refused (number_of e) []
@@ -35,7 +34,7 @@ said_touched (Err e) = refused (number_of e) []
 -- ---- the calls
 
 -- RULES G2. An address and the state after it, no room, 9 or 10; a size that isn't taken is 10 before all else.
-unfoldable pub allocate_of : Arena → ℕ → ℕ → Result (Option Room) Refusal
+unfoldable pub allocate_of : Arena → ℕ → ℕ → Result MaybeRoom Refusal
 unfolding sensible room_for
 allocate_of a len n =
     cond (page_taken a.size)
@@ -102,7 +101,7 @@ said_cases = (refl, refl, refl, refl, refl, refl, refl, refl, refl, refl, refl, 
 -- ---- the promises permit one outcome each
 
 -- RULES X8.
-pub allocate_settled : (a : Arena) (len n : ℕ) {x y : Result (Option Room) Refusal}
+pub allocate_settled : (a : Arena) (len n : ℕ) {x y : Result MaybeRoom Refusal}
     → x ≡ allocate_of a len n → y ≡ allocate_of a len n → x ≡ y
 allocate_settled a len n p q = one-outcome p q
 

@@ -28,13 +28,17 @@ unfoldable pub good_span : Arena → ℕ → ℕ → Bool
 good_span a at n =
     leb (page_of a.size at) a.page && leb (place_of a.size at + n) (used_on a (page_of a.size at))
 
+-- RULES F8, F9. Room that is found, or none.
+abbrev pub MaybeRoom : Type 0
+MaybeRoom = Option Room
+
 -- RULES F8, F9. Room found: its address, and the state after it.
-abbrev pub room_at : ℕ → Arena → Option Room
+abbrev pub room_at : ℕ → Arena → MaybeRoom
 room_at at b = Some (record { at = at; after = b })
 
 -- RULES F8, F9. n bytes: at the used end of the current page if they fit, else at place 0 of the next page if that
 -- exists and holds them.
-unfoldable pub room_for : Arena → ℕ → ℕ → Option Room
+unfoldable pub room_for : Arena → ℕ → ℕ → MaybeRoom
 room_for a len n =
     cond (leb (a.used + n) (capacity_of a.size len a.page))
     (room_at (address_of a.size a.page a.used) (record { page = a.page; used = a.used + n; size = a.size }))
