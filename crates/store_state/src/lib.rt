@@ -110,7 +110,7 @@ pub fn is_whole_state(st: State, words: usize, key_bytes: usize, list_bytes: usi
     let a = are_lengths_equal(st, words, key_bytes, list_bytes);
     let b = is_taken(words);
     let c = does_table_fit(st, words);
-    let d = memory_arena::is_sensible(keys, key_bytes);
-    let e = memory_arena::is_sensible(lists, list_bytes);
+    let d = keys.is_sensible(key_bytes);
+    let e = lists.is_sensible(list_bytes);
     a & (b & (c & ((key_size == list_size) & (d & e))))
 }
