@@ -10,9 +10,7 @@ use lib.ListN.{length, replicate}
 use borrow.Author.Tests.{lt-ltb, le-ltb, leb-true, leb-false, eqb-true, eqb-false}
 use Rattle.limits.specs.Limits.{page_taken, name_limit, name_limit_for, record_extra, each_size}
 use Rattle.memory_arena.specs.declared.Arena.{Arena}
-use Rattle.memory_arena.specs.declared.Allocated.{Allocated}
-use Rattle.memory_arena.specs.declared.Allocated.TheVariants.{At, NoRoom, Refused}
-use Rattle.memory_arena.specs.Pages.{room_for}
+use Rattle.memory_arena.specs.Pages.{MaybeRoom, room_for}
 use Rattle.memory_arena.proofs.Laws.{sensible_facts}
 use Rattle.expull_header.specs.Header.{fresh}
 use Rattle.expull_append.specs.Append.{plan_of}
@@ -49,6 +47,7 @@ use Rattle.flat_store.proofs.Promises.{flat_demand_3}
 use Rattle.flat_history.specs.Alike.{standing_only, by_name, Alike, BothRefuse}
 use Rattle.flat_history.specs.Agreement.{SameRecord, WidePages, Agreement}
 use Rattle.flat_history.specs.Cases.{start, born, calls, unrefused_case}
+use Rattle.std.specs.Prelude.{Some, None}
 
 -- ---- a name, by what is held of it
 
@@ -127,10 +126,9 @@ blocks-room : (a : Option Arena) → by_name (due_blocks a) ≡ 0
 blocks-room none = refl
 blocks-room (some a) = refl
 
-record-room : (a : Allocated) (k : ℕ) → by_name k ≡ 0 → by_name (due_record a k) ≡ 0
-record-room (At at a) k e = e
-record-room NoRoom k e = refl
-record-room (Refused m) k e = refl
+record-room : (a : MaybeRoom) (k : ℕ) → by_name k ≡ 0 → by_name (due_record a k) ≡ 0
+record-room (Some r) k e = e
+record-room None k e = refl
 
 bucket-room : (t : Bool) (k : ℕ) → by_name k ≡ 0 → by_name (cond t 5 k) ≡ 0
 bucket-room true k e = refl
