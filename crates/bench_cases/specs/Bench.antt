@@ -12,13 +12,13 @@ use Rattle.shared_arena_hashmap.specs.Power.{rounded_down, grown_length}
 use Rattle.shared_arena_hashmap.specs.Probe.{start_of}
 use Rattle.expull_header.specs.Header.{fresh, header_bytes}
 use Rattle.expull_append.specs.Append.{Writing, writing, appended}
-use Rattle.store_create.specs.declared.Created.{Created}
-use Rattle.store_create.specs.declared.Created.TheVariants.{Made, Barred}
+use Rattle.store_create.specs.Create.{Created}
 use Rattle.store_append.specs.declared.Appended.{Appended}
 use Rattle.store_append.specs.declared.Appended.TheVariants.{Accepted, Declined}
 use Rattle.store_create.specs.Create.{create_of}
 use Rattle.store_look.specs.Look.{lent}
 use Rattle.store_append.specs.Append.{append_of}
+use Rattle.std.specs.Prelude.{Ok, Err}
 
 -- nine bytes to a fresh list in an empty arena of 64 bytes: used, bytes 8 to 11, block number, head, tail, remaining
 abbrev pub ninth : Option Writing → List ℕ
@@ -39,8 +39,8 @@ used_by (Accepted st) = st.key_arena.used ∷ []
 used_by (Declined st n) = []
 
 abbrev pub after_a : Created → List ℕ → List ℕ
-after_a (Made st) t = used_by (append_of st (lent t (replicate 32 0) (replicate 16 0)) (65 ∷ []) []).answer
-after_a (Barred n) t = []
+after_a (Ok st) t = used_by (append_of st (lent t (replicate 32 0) (replicate 16 0)) (65 ∷ []) []).answer
+after_a (Err e) t = []
 
 abbrev pub record_of_a : List ℕ
 record_of_a = after_a (create_of 1 0 page_size (0 ∷ 0 ∷ []) 32 16).answer (create_of 1 0 page_size (0 ∷ 0 ∷ []) 32 16).table

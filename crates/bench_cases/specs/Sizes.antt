@@ -2,8 +2,7 @@
 use Rattle.std.specs.Prelude.{ℕ, ◌≡◌, refl, false, List, [], ◌∷◌}
 use Rattle.limits.specs.Limits.{page_limit, arena_limit_for, name_limit_for}
 use Rattle.limits.specs.Refusals.{number_in}
-use Rattle.memory_arena.specs.declared.Allocated.{Allocated}
-use Rattle.memory_arena.specs.declared.Allocated.TheVariants.{At, NoRoom, Refused}
+use Rattle.memory_arena.specs.Pages.{MaybeRoom, room_at}
 use Rattle.memory_arena.specs.Address.{address_of, page_of, place_of}
 use Rattle.memory_arena.specs.Calls.{allocate_of}
 use Rattle.store_state.specs.declared.State.{State}
@@ -11,6 +10,9 @@ use Rattle.store_create.specs.Said.{said_created}
 use Rattle.store_look.specs.Said.{said_lookup}
 use Rattle.store_create.specs.Create.{unused, create_of}
 use Rattle.store_look.specs.Look.{lent, lookup_of}
+use Rattle.std.specs.Prelude.{None, Result, Ok, Err}
+use Rattle.limits.specs.declared.Refusal.{Refusal}
+use Rattle.limits.specs.declared.Refusal.TheVariants.{WrongLength, OutOfArena}
 
 -- the longest name, the pages of the longest arena, its bytes; and page 3, place 5, put together and taken apart
 abbrev pub numbers_for : ℕ → List ℕ
@@ -25,18 +27,18 @@ pub numbers : (numbers_for 65536 ≡ 65518 ∷ 65535 ∷ 4294901760 ∷ 196613 �
 numbers = (refl, refl, refl)
 
 -- an allocation of n bytes from a lent arena of len bytes, on page 0 with so many bytes used
-abbrev asked : ℕ → ℕ → ℕ → ℕ → Allocated
+abbrev asked : ℕ → ℕ → ℕ → ℕ → Result MaybeRoom Refusal
 asked size used len n = allocate_of (record { page = 0; used = used; size = size }) len n
 
 -- RULES AG3, AG4. A senseless size is 10, whatever is asked; 9 reads the size; what would straddle goes to the next
 -- page, where that holds it
-pub allocations : (asked 65537 0 64 0 ≡ Refused 10)
-    × (asked 0 0 64 1 ≡ Refused 10)
-    × (asked 65536 0 64 0 ≡ Refused 9)
-    × (asked 65536 0 64 65537 ≡ Refused 9)
-    × (asked 131072 0 64 65537 ≡ NoRoom)
-    × (asked 65536 65530 65548 12 ≡ At 65536 (record { page = 1; used = 12; size = 65536 }))
-    × (asked 65536 65530 65547 12 ≡ NoRoom)
+pub allocations : (asked 65537 0 64 0 ≡ Err OutOfArena)
+    × (asked 0 0 64 1 ≡ Err OutOfArena)
+    × (asked 65536 0 64 0 ≡ Err WrongLength)
+    × (asked 65536 0 64 65537 ≡ Err WrongLength)
+    × (asked 131072 0 64 65537 ≡ Ok None)
+    × (asked 65536 65530 65548 12 ≡ Ok (room_at 65536 (record { page = 1; used = 12; size = 65536 })))
+    × (asked 65536 65530 65547 12 ≡ Ok None)
 unfolding allocate_of
 allocations = (refl, refl, refl, refl, refl, refl, refl)
 

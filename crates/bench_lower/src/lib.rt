@@ -8,7 +8,8 @@
 
 ghost use Rattle.std.specs.Prelude.{◌≤◌, length};
 
-use memory_arena::{Allocated, Arena, Touched};
+use limits::Refusal;
+use memory_arena::{Arena, Room};
 use text::words::{Number, Taken};
 use text::{fault, words};
 use vint::Unvint;
@@ -129,17 +130,16 @@ fn front(line: &[u8], lists: &[u8]) -> Taken
     words::length_at(line, 3, lists.len(), fault::PAST_THE_END)
 }
 
-fn say_allocated(a: Allocated) {
+fn say_allocated(a: Result<Option<Room>, Refusal>) {
     match a {
-        Allocated::At(place, after) => {
-            let page = after.page;
-            let used = after.used;
-            say::told(b"at ", place as u64);
-            say::then(page as u64);
-            say::last(used as u64)
+        Ok(Some(room)) => {
+            let after = room.after;
+            say::told(b"at ", room.at as u64);
+            say::then(after.page as u64);
+            say::last(after.used as u64)
         }
-        Allocated::NoRoom => say::line(b"no room"),
-        Allocated::Refused(n) => say::refused(n),
+        Ok(None) => say::line(b"no room"),
+        Err(e) => say::refused(e.number()),
     }
 }
 
@@ -152,14 +152,14 @@ fn allocate(line: &[u8], lists: &[u8]) {
     if fault != 0 {
         return say::fault(fault);
     }
-    let a = memory_arena::allocate_space(arena(g.a, g.b, size.value), len.n, g.d as usize);
+    let a = arena(g.a, g.b, size.value).allocate_space(len.n, g.d as usize);
     say_allocated(a)
 }
 
-fn say_got(t: Touched, got: &[u8]) {
+fn say_got(t: Result<(), Refusal>, got: &[u8]) {
     match t {
-        Touched::Done => say::bytes_line(got),
-        Touched::Declined(n) => say::refused(n),
+        Ok(()) => say::bytes_line(got),
+        Err(e) => say::refused(e.number()),
     }
 }
 
@@ -179,14 +179,14 @@ fn get(line: &[u8], lists: &[u8], output: &mut [u8]) {
     let n = room.n;
     let place = words::low_32(g.d);
     let a = arena(g.a, g.b, size.value);
-    let t = memory_arena::read(a, &lists[0..pages], place, &mut output[0..n]);
+    let t = a.read(&lists[0..pages], place, &mut output[0..n]);
     say_got(t, &output[0..n])
 }
 
-fn say_put(t: Touched) {
+fn say_put(t: Result<(), Refusal>) {
     match t {
-        Touched::Done => say::line(b"put"),
-        Touched::Declined(n) => say::refused(n),
+        Ok(()) => say::line(b"put"),
+        Err(e) => say::refused(e.number()),
     }
 }
 
@@ -206,7 +206,7 @@ fn put(line: &[u8], lists: &mut [u8], name: &mut [u8]) {
     let n = b.n;
     let place = words::low_32(g.d);
     let a = arena(g.a, g.b, size.value);
-    let t = memory_arena::write_at(a, &mut lists[0..pages], place, &name[0..n]);
+    let t = a.write_at(&mut lists[0..pages], place, &name[0..n]);
     say_put(t)
 }
 

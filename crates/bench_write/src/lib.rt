@@ -6,19 +6,19 @@
 #![tactic(auto)]
 
 use bench_state::Played;
+use limits::Refusal;
 use store_append::{Appended, ToldAppend};
-use store_create::Created;
 use store_state::State;
 use text::{fault, words};
 
-fn say_created(c: Created, st: State) -> State {
+fn say_created(c: Result<State, Refusal>, st: State) -> State {
     match c {
-        Created::Made(fresh) => {
+        Ok(fresh) => {
             say::line(b"created");
             fresh
         }
-        Created::Barred(n) => {
-            say::refused(n);
+        Err(e) => {
+            say::refused(e.number());
             st
         }
     }

@@ -12,9 +12,7 @@ use Rattle.limits.specs.Limits.{fresh_number, link_size, record_extra}
 use Rattle.limits.specs.Refusals.{number_in}
 use Rattle.numbers.proofs.Tests.{both, not_both}
 use Rattle.memory_arena.specs.declared.Arena.{Arena}
-use Rattle.memory_arena.specs.declared.Allocated.{Allocated}
-use Rattle.memory_arena.specs.declared.Allocated.TheVariants.{At as RoomAt, NoRoom, Refused as RoomRefused}
-use Rattle.memory_arena.specs.Pages.{standing, good_span, room_for}
+use Rattle.memory_arena.specs.Pages.{MaybeRoom, standing, good_span, room_for}
 use Rattle.memory_arena.proofs.Laws.{sensible_facts, standing_facts, good-end, good_page, good-below}
 use Rattle.shared_arena_hashmap.specs.declared.Met.{Met}
 use Rattle.shared_arena_hashmap.specs.declared.Met.TheVariants.{Empty, Standing, Damaged, Lap}
@@ -50,6 +48,7 @@ use Rattle.brownout_faults.specs.Check.{vacant, record_in, good_in, tail_good, b
 use Rattle.brownout_faults.specs.Promises.{NoDamage, Faultless}
 use Rattle.brownout_faults.proofs.Faults.{Clean, clean_facts}
 use Rattle.brownout_faults.proofs.Where.{walk-found, walk_damaged, walk_lap}
+use Rattle.std.specs.Prelude.{Some, None}
 
 -- a block of a list whose blocks are good
 good_last : (a : Arena) (m : List ℕ) (head k n : ℕ) → n ≡ suc k → good_blocks a m head n ≡ true
@@ -254,11 +253,10 @@ module _ (st : State) (m : Lent) (W : checked st m ≡ true) (F : Faultless st m
     entered at a none = λ z. omega arith
     entered at a (some w) = λ z. omega arith
 
-    room : (r : Allocated) → Not4 (on_key_room r st m name bytes)
+    room : (r : MaybeRoom) → Not4 (on_key_room r st m name bytes)
     unfolding on_key_room
-    room (RoomAt at a) = entered at a (appended bytes (writing m.lists st.list_arena fresh))
-    room NoRoom = λ z. omega arith
-    room (RoomRefused n) = λ z. omega arith
+    room (Some r) = entered r.at r.after (appended bytes (writing m.lists st.list_arena fresh))
+    room None = λ z. omega arith
 
     which : (b : Bool) (o : Out) (n : ℕ) → (n ≡ 4 → ⊥) → Not4 o → Not4 (cond b (declined st m n) o)
     which true o n k f = k

@@ -17,11 +17,9 @@ use Rattle.numbers.proofs.Laws.{length_le}
 use Rattle.spans.specs.Span.{read_span, overwrite}
 use Rattle.spans.proofs.Laws.{length-overwrite, read-apart, number_back}
 use Rattle.memory_arena.specs.declared.Arena.{Arena}
-use Rattle.memory_arena.specs.declared.Allocated.{Allocated}
-use Rattle.memory_arena.specs.declared.Allocated.TheVariants.{At, NoRoom, Refused}
 use Rattle.memory_arena.specs.Address.{place_of}
-use Rattle.memory_arena.specs.Pages.{standing, room_for}
-use Rattle.memory_arena.proofs.Laws.{place_of_lem, standing_facts, standing_made, Room, room_size, room_facts}
+use Rattle.memory_arena.specs.Pages.{MaybeRoom, room_at, standing, room_for}
+use Rattle.memory_arena.proofs.Laws.{place_of_lem, standing_facts, standing_made, Placed, room_size, room_facts}
 use Rattle.expull_header.specs.declared.Header.{Header}
 use Rattle.expull_header.specs.Header.{block_size, fresh}
 use Rattle.expull_append.specs.Append.{Writing, writing, next_wide, head_with, linked, header_with, with_block, on_room}
@@ -31,6 +29,7 @@ use Rattle.history_lanes.specs.Lane.{size_on, wide_on, Paged, Clear, used_end}
 use Rattle.history_lanes.proofs.Blocks.{apart-within, apart_sym, clear_within, clear_above, below_up}
 use Rattle.history_lanes.proofs.Blocks.{link_to_kept, links-kept}
 use Rattle.brownout_kept.specs.Laid.{Chain}
+use Rattle.std.specs.Prelude.{Some, None}
 
 -- ---- a list without blocks
 
@@ -209,12 +208,12 @@ take_step m a h (x ∷ ks) v a' L z S =
     }
 
 spot-at : (m : List ℕ) (a : Arena) (h : Header) (ks : List ℕ) (v : ℕ) (a' : Arena) → Chain m a h ks
-    → room_for a (length m) (next_wide h) ≡ At v a' → Spot m a ks v a'
+    → room_for a (length m) (next_wide h) ≡ room_at v a' → Spot m a ks v a'
 spot-at m a h ks v a' L e =
     let p : h.number + 1 ≡ length ks + 3 = omega (arith, L.number) in
     let w : next_wide h ≡ wide_on ks = ap (λ (b : ℕ). block_size b + link_size) p in
     let f = ap (room_for a (length m)) (sym w) ∙ e in
-    let R : Room a (length m) (wide_on ks) v a' =
+    let R : Placed a (length m) (wide_on ks) v a' =
     room_facts a (length m) (wide_on ks) v a' (omega arith) L.stands f in
     record {
       above = R.above;
@@ -239,7 +238,7 @@ abbrev StepOf : Writing → List ℕ → Writing → List ℕ → Type 0
 StepOf w ks w' ks' = Step w.memory w.arena ks w'.memory w'.arena ks'
 
 take-with : (w : Writing) (ks : List ℕ) (v : ℕ) (a' : Arena) → ChainOf w ks → w.header.remaining ≡ 0
-    → room_for w.arena (length w.memory) (next_wide w.header) ≡ At v a'
+    → room_for w.arena (length w.memory) (next_wide w.header) ≡ room_at v a'
     → ChainOf (with_block v a' w) (v ∷ ks) × StepOf w ks (with_block v a' w) (v ∷ ks)
     × (0 < (header_with v w.header).remaining)
 take-with w ks v a' L z e =
@@ -267,14 +266,13 @@ ready-open : (w : Writing) (ks : List ℕ) → ChainOf w ks → (v : Writing) �
 unfolding ready
 ready-open w ks L v e = go (eqb w.header.remaining 0) refl e
   where
-    taken : (r : Allocated) → room_for w.arena (length w.memory) (next_wide w.header) ≡ r
+    taken : (r : MaybeRoom) → room_for w.arena (length w.memory) (next_wide w.header) ≡ r
         → w.header.remaining ≡ 0 → on_room r w ≡ some v → Open w ks v
-    taken (At at a') p z e =
-        let T = take-with w ks at a' L z p in
-        subst (λ (v : Writing). Open w ks v) (same_some (with_block at a' w) v e)
-        (record { newest = at; others = ks; chain = T.0; step = T.1; waits = T.2 })
-    taken NoRoom p z e = let c : ◌≡◌ {A = ℕ} 0 1 = cc in absurd (omega arith)
-    taken (Refused n) p z e = let c : ◌≡◌ {A = ℕ} 0 1 = cc in absurd (omega arith)
+    taken (Some r) p z e =
+        let T = take-with w ks r.at r.after L z p in
+        subst (λ (v : Writing). Open w ks v) (same_some (with_block r.at r.after w) v e)
+        (record { newest = r.at; others = ks; chain = T.0; step = T.1; waits = T.2 })
+    taken None p z e = let c : ◌≡◌ {A = ℕ} 0 1 = cc in absurd (omega arith)
 
     stays : (ks : List ℕ) → ChainOf w ks → (w.header.remaining ≡ 0 → ⊥) → Open w ks w
     stays [] L z = absurd (z L.ends.2)

@@ -11,9 +11,7 @@ use lib.ListN.{length}
 use borrow.Author.Tests.{le-leb, eq-eqb, ne_eqb}
 use Rattle.limits.specs.Limits.{name_limit, fresh_number, record_extra, link_size}
 use Rattle.memory_arena.specs.declared.Arena.{Arena}
-use Rattle.memory_arena.specs.declared.Allocated.{Allocated}
-use Rattle.memory_arena.specs.declared.Allocated.TheVariants.{At, NoRoom, Refused}
-use Rattle.memory_arena.specs.Pages.{room_for}
+use Rattle.memory_arena.specs.Pages.{MaybeRoom, room_at, room_for}
 use Rattle.memory_arena.proofs.Laws.{standing_facts, good-below}
 use Rattle.shared_arena_hashmap.specs.declared.Met.TheVariants.{Empty, Standing, Lap}
 use Rattle.expull_header.specs.declared.Header.{Header}
@@ -54,6 +52,7 @@ use Rattle.brownout_kept.proofs.Fine.{laid-faultless}
 use Rattle.brownout_kept.proofs.Found.{ghosts, faultless_laid}
 use Rattle.brownout_kept.proofs.Took.{Leaves, standing_state, standing_memory, took_standing}
 use Rattle.brownout_kept.proofs.Took.{new_state, new_memory, took_new}
+use Rattle.std.specs.Prelude.{Some, None}
 
 -- a list's tail is good for an append
 chain_tail : (m : List ℕ) (a : Arena) (h : Header) (ks : List ℕ) → Chain m a h ks → good_tail a h ≡ true
@@ -136,7 +135,7 @@ module _ {st : State} {m : Lent} {G : Ghosts} (S : Laid st m G) (name bytes : Li
         (chain_tail m.lists st.list_arena head (G.blocks name) (S.chain name M)) refl)
 
     keeps-entered : (M : Stands G name → ⊥) (loose : is_crowded st ≡ false) (at : ℕ) (ka : Arena)
-        → room_for st.key_arena (length m.keys) (length name + record_extra) ≡ At at ka
+        → room_for st.key_arena (length m.keys) (length name + record_extra) ≡ room_at at ka
         → (o : Option Writing) → appended bytes (writing m.lists st.list_arena fresh) ≡ o
         → append_of st m name bytes ≡ new_written o st m name at ka → Keeps m (append_of st m name bytes)
     unfolding new_written
@@ -147,14 +146,13 @@ module _ {st : State} {m : Lent} {G : Ghosts} (S : Laid st m G) (name bytes : Li
         subst (Keeps m) (sym p)
         (keeps_accepted m s m' (took_new S name bytes M short some_byte loose at ka r v e (accepted_whole s m' p)))
 
-    keeps_roomed : (M : Stands G name → ⊥) (loose : is_crowded st ≡ false) (r : Allocated)
+    keeps_roomed : (M : Stands G name → ⊥) (loose : is_crowded st ≡ false) (r : MaybeRoom)
         → room_for st.key_arena (length m.keys) (length name + record_extra) ≡ r
         → append_of st m name bytes ≡ on_key_room r st m name bytes → Keeps m (append_of st m name bytes)
     unfolding on_key_room
-    keeps_roomed M loose (At at ka) r p =
-        keeps-entered M loose at ka r (appended bytes (writing m.lists st.list_arena fresh)) refl p
-    keeps_roomed M loose NoRoom r p = subst (Keeps m) (sym p) (keeps-declined st m 6)
-    keeps_roomed M loose (Refused n) r p = subst (Keeps m) (sym p) (keeps-declined st m 6)
+    keeps_roomed M loose (Some found) r p =
+        keeps-entered M loose found.at found.after r (appended bytes (writing m.lists st.list_arena fresh)) refl p
+    keeps_roomed M loose None r p = subst (Keeps m) (sym p) (keeps-declined st m 6)
 
     keeps-new : (M : Stands G name → ⊥) → Keeps m (append_of st m name bytes)
     keeps-new M = go (is_crowded st) refl

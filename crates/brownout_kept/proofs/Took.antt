@@ -14,10 +14,9 @@ use Rattle.spans.specs.Span.{overwrite, Apart}
 use Rattle.spans.proofs.Laws.{length-overwrite}
 use Rattle.murmurhash2.specs.Murmur.{murmur_hash2}
 use Rattle.memory_arena.specs.declared.Arena.{Arena}
-use Rattle.memory_arena.specs.declared.Allocated.TheVariants.{At}
 use Rattle.memory_arena.specs.Address.{place_of}
-use Rattle.memory_arena.specs.Pages.{standing, room_for, good_span}
-use Rattle.memory_arena.proofs.Laws.{place_of_lem, Room, room_size, room_facts, room_in, standing_made, Sensible}
+use Rattle.memory_arena.specs.Pages.{room_at, standing, room_for, good_span}
+use Rattle.memory_arena.proofs.Laws.{place_of_lem, Placed, room_size, room_facts, room_in, standing_made, Sensible}
 use Rattle.memory_arena.proofs.Laws.{sensible_facts, sensible_short, good-end}
 use Rattle.numbers.proofs.Tests.{both}
 use Rattle.records.specs.Record.{key_length, key_at, good_record, value_place, header_of, header_sound, record_bytes}
@@ -246,7 +245,7 @@ module _ {st : State} {m : Lent} {G : Ghosts} (S : Laid st m G) where
 
   module _ (name bytes : List ℕ) (M : Stands G name → ⊥) (short : length name ≤ name_limit) (some_byte : 0 < length name)
       (loose : is_crowded st ≡ false) (at : ℕ) (ka : Arena)
-      (r : room_for st.key_arena (length m.keys) (length name + record_extra) ≡ At at ka) (v : Writing)
+      (r : room_for st.key_arena (length m.keys) (length name + record_extra) ≡ room_at at ka) (v : Writing)
       (e : appended bytes (writing m.lists st.list_arena fresh) ≡ some v) where
     abbrev keys' : List ℕ
     keys' = overwrite at (record_bytes name v.header) m.keys
@@ -269,7 +268,7 @@ module _ {st : State} {m : Lent} {G : Ghosts} (S : Laid st m G) where
     new-fits : HeaderFits v.header
     new-fits = chain-header v.memory v.arena v.header new-left.0 new-left.1
 
-    room : Room st.key_arena (length m.keys) (length name + record_extra) at ka
+    room : Placed st.key_arena (length m.keys) (length name + record_extra) at ka
     room =
         room_facts st.key_arena (length m.keys) (length name + record_extra) at ka (omega arith)
         key_sense.stands r

@@ -8,9 +8,7 @@ use native.Mathlib.Omega.{arith}
 use lib.ListN.{length}
 use Rattle.limits.specs.Limits.{record_extra}
 use Rattle.memory_arena.specs.declared.Arena.{Arena}
-use Rattle.memory_arena.specs.declared.Allocated.{Allocated}
-use Rattle.memory_arena.specs.declared.Allocated.TheVariants.{At, NoRoom, Refused}
-use Rattle.memory_arena.specs.Pages.{room_for}
+use Rattle.memory_arena.specs.Pages.{MaybeRoom, room_for}
 use Rattle.shared_arena_hashmap.specs.declared.Met.{Met}
 use Rattle.shared_arena_hashmap.specs.declared.Met.TheVariants.{Empty, Standing, Damaged, Lap}
 use Rattle.expull_header.specs.Header.{fresh}
@@ -25,6 +23,7 @@ use Rattle.store_look.specs.Look.{Lent, checked, walk_of}
 use Rattle.store_append.specs.Append.{Out, declined, is_saturated, is_crowded, grows, grown_state, state_grown, moved_state}
 use Rattle.store_append.specs.Append.{standing_written, append_standing, new_written, on_key_room, append_new, on_met}
 use Rattle.store_append.specs.Append.{append_of}
+use Rattle.std.specs.Prelude.{Some, None}
 
 -- what was accepted has the seed of a state
 Seeded : State → Out → Type 0
@@ -74,12 +73,11 @@ module _ (st : State) (m : Lent) where
       (seeded_standing_written at (appended bytes (writing m.lists st.list_arena (header_of m.keys at))))
       (seeded_declined 4)
 
-  seeded_room : (name bytes : List ℕ) (r : Allocated) → Seeded st (on_key_room r st m name bytes)
+  seeded_room : (name bytes : List ℕ) (r : MaybeRoom) → Seeded st (on_key_room r st m name bytes)
   unfolding on_key_room
-  seeded_room name bytes (At at a) =
-      seeded_new_written name at a (appended bytes (writing m.lists st.list_arena fresh))
-  seeded_room name bytes NoRoom = seeded_declined 6
-  seeded_room name bytes (Refused n) = seeded_declined 6
+  seeded_room name bytes (Some r) =
+      seeded_new_written name r.at r.after (appended bytes (writing m.lists st.list_arena fresh))
+  seeded_room name bytes None = seeded_declined 6
 
   seeded_new : (name bytes : List ℕ) → Seeded st (append_new st m name bytes)
   unfolding append_new

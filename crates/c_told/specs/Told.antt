@@ -2,8 +2,7 @@
 -- words in a lent area where something is told; and the new state, saved to its area.
 use Rattle.std.specs.Prelude.{ℕ, ◌/◌, ◌%◌, ◌^◌, cond, List, [], ◌∷◌, leb, length}
 use Rattle.spans.specs.Span.{overwrite}
-use Rattle.store_create.specs.declared.Created.{Created}
-use Rattle.store_create.specs.declared.Created.TheVariants.{Made, Barred}
+use Rattle.store_create.specs.Create.{Created}
 use Rattle.store_append.specs.declared.Appended.{Appended}
 use Rattle.store_append.specs.declared.Appended.TheVariants.{Accepted, Declined}
 use Rattle.store_look.specs.declared.Lookup.{Lookup}
@@ -18,6 +17,8 @@ use Rattle.store_create.specs.Create.{Out as Creation}
 use Rattle.store_look.specs.Look.{Lent}
 use Rattle.store_append.specs.Append.{Out as Appending}
 use Rattle.state_area.specs.Area.{area_of}
+use Rattle.std.specs.Prelude.{Ok, Err}
+use Rattle.limits.specs.Refusals.{number_of}
 
 -- ---- what is said in numbers
 
@@ -76,8 +77,8 @@ listed_told (Stopped n) told = says n 0 0 told
 
 -- RULES AK7. The area after a creation, and the code.
 abbrev pub saved_created : Created → List ℕ → ℕ × List ℕ
-saved_created (Made st) area = (0, overwrite 0 (area_of st) area)
-saved_created (Barred n) area = (n, area)
+saved_created (Ok st) area = (0, overwrite 0 (area_of st) area)
+saved_created (Err e) area = (number_of e, area)
 
 -- RULES AK7. The code, the state area, the table.
 abbrev pub created : Creation → List ℕ → (ℕ × List ℕ) × List ℕ

@@ -10,9 +10,10 @@ ghost use Rattle.state_area.specs.Area.{area_size};
 ghost use Rattle.c_told.specs.Told.{says, number_in, answer_told, lookup_told, listed_told};
 ghost use Rattle.c_told.specs.Told.{saved_created, saved_appended};
 
+use limits::Refusal;
 use store_append::Appended;
-use store_create::Created;
 use store_look::{Answer, Listed, Lookup, Outcome};
+use store_state::State;
 
 // ---- what is said in numbers
 
@@ -79,16 +80,16 @@ pub fn tell_listed(told: &mut [u32], next: Listed) -> u32
 
 // ---- the new state saved
 
-pub fn save_created(state: &mut [u8], answer: Created) -> u32
+pub fn save_created(state: &mut [u8], answer: Result<State, Refusal>) -> u32
     requires { area_size ≤ length state.old }
     ensures { (result, state.new) ≡ saved_created answer state.old }
 {
     match answer {
-        Created::Made(st) => {
+        Ok(st) => {
             state_area::save(state, st);
             0
         }
-        Created::Barred(n) => n,
+        Err(e) => e.number(),
     }
 }
 

@@ -3,13 +3,9 @@
 -- are 0, and what would pass the area's end is left out.
 use Rattle.std.specs.Prelude.{ℕ, Bool, cond, List, [], ◌∷◌}
 use Rattle.spans.specs.Span.{overwrite}
-use Rattle.memory_arena.specs.declared.Allocated.{Allocated}
-use Rattle.memory_arena.specs.declared.Allocated.TheVariants.{At, NoRoom, Refused as NotAllocated}
-use Rattle.memory_arena.specs.declared.Touched.{Touched}
-use Rattle.memory_arena.specs.declared.Touched.TheVariants.{Done, Declined as NotTouched}
+use Rattle.memory_arena.specs.Pages.{MaybeRoom}
 use Rattle.store_state.specs.declared.State.{State}
-use Rattle.store_create.specs.declared.Created.{Created}
-use Rattle.store_create.specs.declared.Created.TheVariants.{Made, Barred}
+use Rattle.store_create.specs.Create.{Created}
 use Rattle.store_append.specs.declared.Appended.{Appended}
 use Rattle.store_append.specs.declared.Appended.TheVariants.{Accepted, Declined}
 use Rattle.store_look.specs.declared.Outcome.{Outcome}
@@ -19,6 +15,9 @@ use Rattle.store_look.specs.declared.Answer.TheVariants.{Absent, Found, Refused}
 use Rattle.store_create.specs.Create.{Out as Creation}
 use Rattle.store_look.specs.Look.{Lent, Read}
 use Rattle.store_append.specs.Append.{Out as Appending}
+use Rattle.std.specs.Prelude.{⊤, Some, None, Result, Ok, Err}
+use Rattle.limits.specs.declared.Refusal.{Refusal}
+use Rattle.limits.specs.Refusals.{number_of}
 
 -- Two answers that have no number of document 01.
 abbrev pub absent_word : ℕ
@@ -57,8 +56,8 @@ abbrev pub four : ℕ → ℕ → List ℕ
 four a b = a ∷ b ∷ 0 ∷ 0 ∷ []
 
 abbrev pub told_created : Created → List ℕ
-told_created (Made st) = fields_of 0 st
-told_created (Barred n) = four n 0
+told_created (Ok st) = fields_of 0 st
+told_created (Err e) = four (number_of e) 0
 
 abbrev pub told_appended : Appended → List ℕ
 told_appended (Accepted st) = fields_of 0 st
@@ -75,14 +74,14 @@ told_answer Absent = four absent_word 0
 told_answer (Found o) = four 0 (length_in o)
 told_answer (Refused n told) = four n told
 
-abbrev pub told_allocated : Allocated → List ℕ
-told_allocated (At at a) = 0 ∷ at ∷ a.page ∷ a.used ∷ []
-told_allocated NoRoom = four no_room_word 0
-told_allocated (NotAllocated n) = four n 0
+abbrev pub told_allocated : Result MaybeRoom Refusal → List ℕ
+told_allocated (Ok (Some r)) = 0 ∷ r.at ∷ r.after.page ∷ r.after.used ∷ []
+told_allocated (Ok None) = four no_room_word 0
+told_allocated (Err e) = four (number_of e) 0
 
-abbrev pub number_touched : Touched → ℕ
-number_touched Done = 0
-number_touched (NotTouched n) = n
+abbrev pub number_touched : Result ⊤ Refusal → ℕ
+number_touched (Ok u) = 0
+number_touched (Err e) = number_of e
 
 -- ---- the store's calls: each lent area as the call leaves it, the told words last
 

@@ -16,9 +16,9 @@ ghost use Rattle.store_append.specs.Append.{append_of};
 ghost use Rattle.edge.specs.Told.{state_of, fields_of, told_created, told_appended, length_in, told_answer};
 ghost use Rattle.edge.specs.Told.{told_allocated, number_touched, create_told, append_told, read_told};
 
-use memory_arena::{Allocated, Arena, Touched};
+use limits::Refusal;
+use memory_arena::{Arena, Room};
 use store_append::Appended;
-use store_create::Created;
 use store_look::{Answer, Outcome};
 use store_state::State;
 
@@ -85,12 +85,12 @@ fn tell_state(told: &mut [u64], number: u64, st: State)
     tell(told, 12, keys.size as u64);
 }
 
-fn tell_created(told: &mut [u64], r: Created)
+fn tell_created(told: &mut [u64], r: Result<State, Refusal>)
     ensures { told.new ≡ overwrite 0 (told_created r) told.old }
 {
     match r {
-        Created::Made(st) => tell_state(told, 0, st),
-        Created::Barred(n) => tell_four(told, 0, n as u64, 0, 0, 0),
+        Ok(st) => tell_state(told, 0, st),
+        Err(e) => tell_four(told, 0, e.number() as u64, 0, 0, 0),
     }
 }
 
@@ -124,22 +124,25 @@ fn tell_answer(told: &mut [u64], r: Answer)
     }
 }
 
-fn tell_allocated(told: &mut [u64], r: Allocated)
+fn tell_allocated(told: &mut [u64], r: Result<Option<Room>, Refusal>)
     ensures { told.new ≡ overwrite 0 (told_allocated r) told.old }
 {
     match r {
-        Allocated::At(at, a) => tell_four(told, 0, 0, at as u64, a.page as u64, a.used as u64),
-        Allocated::NoRoom => tell_four(told, 0, 101, 0, 0, 0),
-        Allocated::Refused(n) => tell_four(told, 0, n as u64, 0, 0, 0),
+        Ok(Some(room)) => {
+            let Room { at, after } = room;
+            tell_four(told, 0, 0, at as u64, after.page as u64, after.used as u64)
+        }
+        Ok(None) => tell_four(told, 0, 101, 0, 0, 0),
+        Err(e) => tell_four(told, 0, e.number() as u64, 0, 0, 0),
     }
 }
 
-fn number_touched(r: Touched) -> u64
+fn number_touched(r: Result<(), Refusal>) -> u64
     ensures { result ≡ number_touched r }
 {
     match r {
-        Touched::Done => 0,
-        Touched::Declined(n) => n as u64,
+        Ok(()) => 0,
+        Err(e) => e.number() as u64,
     }
 }
 
@@ -324,7 +327,7 @@ pub extern "C" fn edge_allocate(
         ≡ overwrite 0 (told_allocated (allocate_of (record { page = page; used = used; size = size }) len n))
         told.old }
 {
-    let r = memory_arena::allocate_space(Arena { page, used, size }, len, n);
+    let r = Arena { page, used, size }.allocate_space(len, n);
     tell_allocated(told, r);
 }
 
@@ -344,7 +347,7 @@ pub extern "C" fn edge_get(
         ≡ (read_of (record { page = page; used = used; size = size }) pages.now at
         output.old).memory }
 {
-    let r = memory_arena::read(Arena { page, used, size }, pages, at, output);
+    let r = Arena { page, used, size }.read(pages, at, output);
     number_touched(r)
 }
 
@@ -364,6 +367,6 @@ pub extern "C" fn edge_put(
         ≡ (write_of (record { page = page; used = used; size = size }) pages.old at
         bytes.now).memory }
 {
-    let r = memory_arena::write_at(Arena { page, used, size }, pages, at, bytes);
+    let r = Arena { page, used, size }.write_at(pages, at, bytes);
     number_touched(r)
 }

@@ -16,10 +16,9 @@ use Rattle.numbers.specs.LittleEndian.{le_bytes}
 use Rattle.spans.specs.Span.{overwrite}
 use Rattle.spans.proofs.Laws.{length-overwrite, overwrite-append, overwrite_none}
 use Rattle.memory_arena.specs.declared.Arena.{Arena}
-use Rattle.memory_arena.specs.declared.Allocated.{Allocated}
-use Rattle.memory_arena.specs.declared.Allocated.TheVariants.{At, NoRoom, Refused}
+use Rattle.std.specs.Prelude.{Some, None}
 use Rattle.memory_arena.specs.Address.{address_of, page_of, place_of}
-use Rattle.memory_arena.specs.Pages.{standing, room_for, good_span}
+use Rattle.memory_arena.specs.Pages.{standing, MaybeRoom, room_at, room_for, good_span}
 use Rattle.memory_arena.specs.Calls.{sensible}
 use Rattle.memory_arena.proofs.Laws.{split, place_of_lem, standing_facts, good-end, good-in, good_page, good-below}
 use Rattle.memory_arena.proofs.Laws.{room_facts, room_in, room_size, room-sensible, sensible_facts, sensible_short}
@@ -70,16 +69,15 @@ block_room at a w = size_pos (w.header.number + 1)
 
 -- what holds of the list as it is, and with a block taken, holds of it once it is ready
 pub ready_cases : (P : Writing → Type 0) (w v : Writing) → (0 < w.header.remaining → P w)
-    → ((at : ℕ) (a : Arena) → room_for w.arena (length w.memory) (next_wide w.header) ≡ At at a
+    → ((at : ℕ) (a : Arena) → room_for w.arena (length w.memory) (next_wide w.header) ≡ room_at at a
     → P (with_block at a w))
     → ready w ≡ some v → P v
 ready_cases P w v f g e = go (eqb w.header.remaining 0) refl
   where
-    room : (r : Allocated) → room_for w.arena (length w.memory) (next_wide w.header) ≡ r → on_room r w ≡ some v
+    room : (r : MaybeRoom) → room_for w.arena (length w.memory) (next_wide w.header) ≡ r → on_room r w ≡ some v
         → P v
-    room (At at a) p q = subst P (same_some _ _ q) (g at a p)
-    room NoRoom p q = never _ q
-    room (Refused n) p q = never _ q
+    room (Some r) p q = subst P (same_some _ _ q) (g r.at r.after p)
+    room None p q = never _ q
 
     go : (t : Bool) → eqb w.header.remaining 0 ≡ t → P v
     go true z = room _ refl (sym (ready-taken w (eqb-true _ _ z)) ∙ e)
@@ -132,13 +130,12 @@ unfolding appended
 appended-ready [] w h = absurd (omega arith)
 appended-ready (b ∷ bs) w h = go (eqb w.header.remaining 0) refl
   where
-    room : (r : Allocated)
+    room : (r : MaybeRoom)
         → and_then (on_room r w) (λ v. appended bs (filled (b ∷ []) v)) ≡ and_then (on_room r w) (appended (b ∷ bs))
-    room (At at a) =
+    room (Some r) =
         sym (ap (λ (o : Option Writing). and_then o (λ v. appended bs (filled (b ∷ []) v)))
-        (ready-kept (with_block at a w) (block_room at a w)))
-    room NoRoom = refl
-    room (Refused n) = refl
+        (ready-kept (with_block r.at r.after w) (block_room r.at r.after w)))
+    room None = refl
 
     go : (t : Bool) → eqb w.header.remaining 0 ≡ t → appended (b ∷ bs) w ≡ and_then (ready w) (appended (b ∷ bs))
     go true e =
@@ -149,10 +146,9 @@ appended-ready (b ∷ bs) w h = go (eqb w.header.remaining 0) refl
 
 -- ---- the dry run decides
 
-on_same : (r : Allocated) (f g : Arena → Option Arena) → ((a : Arena) → f a ≡ g a) → on_room_dry r f ≡ on_room_dry r g
-on_same (At at a) f g h = h a
-on_same NoRoom f g h = refl
-on_same (Refused n) f g h = refl
+on_same : (r : MaybeRoom) (f g : Arena → Option Arena) → ((a : Arena) → f a ≡ g a) → on_room_dry r f ≡ on_room_dry r g
+on_same (Some r) f g h = h r.after
+on_same None f g h = refl
 
 -- any number of turns that is enough gives the same plan
 pub plan_turns : (t u len : ℕ) (a : Arena) (b n : ℕ) → n ≤ t → n ≤ u → planned t len a b n ≡ planned u len a b n
@@ -217,7 +213,7 @@ plan_decides (b ∷ bs) w =
     go (eqb w.header.remaining 0) refl
     (λ v h. plan_decides bs (filled (b ∷ []) v) ∙ plan_filled (b ∷ []) v (length bs) h ∙ rw (one-add (length bs)))
   where
-    room : (r : Allocated)
+    room : (r : MaybeRoom)
         → ((v : Writing) → 0 < v.header.remaining
         → arena_of (appended bs (filled (b ∷ []) v))
         ≡ plan_of (length v.memory) v.arena v.header (suc (length bs)))
@@ -225,11 +221,10 @@ plan_decides (b ∷ bs) w =
         ≡ on_room_dry r (λ c. planned (suc (length bs) - block_size (w.header.number + 1)) (length w.memory) c
         (w.header.number + 1)
         (suc (length bs) - block_size (w.header.number + 1)))
-    room (At at a) h =
-        h (with_block at a w) (block_room at a w)
-        ∙ rw length-linked (plan_block (length w.memory) at a w.header (suc (length bs)))
-    room NoRoom h = refl
-    room (Refused n) h = refl
+    room (Some r) h =
+        h (with_block r.at r.after w) (block_room r.at r.after w)
+        ∙ rw length-linked (plan_block (length w.memory) r.at r.after w.header (suc (length bs)))
+    room None h = refl
 
     go : (t : Bool) → eqb w.header.remaining 0 ≡ t
         → ((v : Writing) → 0 < v.header.remaining
@@ -326,7 +321,7 @@ good_later a at n k len h e f =
     (standing_facts a len e).in_page
 
 -- the span that an allocation gives is good in the arena after it
-room-good : (a : Arena) (len n at : ℕ) (b : Arena) → 0 < n → standing a len ≡ true → room_for a len n ≡ At at b
+room-good : (a : Arena) (len n at : ℕ) (b : Arena) → 0 < n → standing a len ≡ true → room_for a len n ≡ room_at at b
     → good_span b at n ≡ true
 room-good a len n at b z e f =
     let s = b.size in
@@ -345,7 +340,7 @@ pub reached_then : (w v u : Writing) → Reached w v → Reached v u → Reached
 reached_then w v u p q = record { working = q.working; onward = onward_then w v u p.onward q.onward }
 
 -- the address of a new block isn't null
-room_known : (a : Arena) (len n at : ℕ) (b : Arena) → 0 < n → sensible a len ≡ true → room_for a len n ≡ At at b
+room_known : (a : Arena) (len n at : ℕ) (b : Arena) → 0 < n → sensible a len ≡ true → room_for a len n ≡ room_at at b
     → at ≡ null_address → ⊥
 room_known a len n at b z e f q =
     let s = sensible_facts a len e in
@@ -361,7 +356,7 @@ head_known at h k n = go (eqb h.number fresh_number) refl
 
 -- a block taken
 pub taken-reached : (w : Writing) (at : ℕ) (b : Arena) → Working w
-    → room_for w.arena (length w.memory) (next_wide w.header) ≡ At at b → Reached w (with_block at b w)
+    → room_for w.arena (length w.memory) (next_wide w.header) ≡ room_at at b → Reached w (with_block at b w)
 unfolding header_with
 taken-reached w at b k f =
     let h = w.header in

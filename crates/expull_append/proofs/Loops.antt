@@ -1,20 +1,15 @@
 -- What holds while the code's loops run, and what a turn of each does: the dry run, the append. Assumes nothing.
 use Prim.Native.Nat.{ℕ, ◌+◌, ◌-◌, ◌*◌, ◌≤◌, ◌<◌, min}
-use mathlib.Core.Path.{◌≡◌, refl, sym, ap, ◌∙◌, subst}
-use mathlib.Core.Bool.{true, false, false≢true}
+use mathlib.Core.Path.{◌≡◌, refl, sym, ap, ◌∙◌}
+use mathlib.Core.Bool.{true}
 use mathlib.Core.Option.{Option, none, some}
-use mathlib.Core.List.{List, [], ◌∷◌}
+use mathlib.Core.List.{List, [], ◌∷◌, ◌++◌}
 use native.Mathlib.Omega.{arith}
-use lib.ListN.{length, take, drop, length-take, length-drop, take-append-drop, drop_of_length-le}
-use lib.Seq.{drop-drop}
-use types.Run.{OneOf, miss}
-use denote.Enum.Declared.{tag_of}
-use Rattle.memory_arena.specs.contracts.Allocated.{the_type}
+use lib.ListN.{length, take, drop, length-take, take-append-drop}
+use Rattle.std.specs.Prelude.{Some, None, IsSome}
 use Rattle.limits.specs.Limits.{arena_limit, fresh_number, number_limit, link_size}
 use Rattle.memory_arena.specs.declared.Arena.{Arena}
-use Rattle.memory_arena.specs.declared.Allocated.{Allocated}
-use Rattle.memory_arena.specs.declared.Allocated.TheVariants.{At, NoRoom, Refused}
-use Rattle.memory_arena.specs.Pages.{room_for}
+use Rattle.memory_arena.specs.Pages.{MaybeRoom, room_at, room_for}
 use Rattle.memory_arena.specs.Calls.{sensible}
 use Rattle.memory_arena.proofs.Laws.{standing_facts, room_facts, room-sensible, sensible_facts, sensible_short}
 use Rattle.expull_header.specs.declared.Header.{Header}
@@ -26,12 +21,6 @@ use Rattle.expull_append.proofs.Laws.{arena_of, plan_decides, plan_fits, end_of,
 use Rattle.expull_append.proofs.Laws.{Readied, ready-reached, filled-reached}
 
 -- ---- the dry run's loop
-
--- an answer that code has told apart from an address is none that a plan goes on with
-pub no_room : (r : Allocated) (k : Arena → Option Arena) → OneOf (1 ∷ 2 ∷ []) (tag_of the_type r) → on_room_dry r k ≡ none
-no_room (At at a) k o = absurd (miss (1 ∷ 2 ∷ []) 0 tt o)
-no_room NoRoom k o = refl
-no_room (Refused n) k o = refl
 
 -- what holds while the dry run takes blocks: the plan is that of the rest, and the block number is small, since each
 -- block moves the used end on
@@ -48,7 +37,7 @@ plan_left len a h n l e = rw e
 
 -- a block taken leaves the arena sensible, and moves its end on
 plan_room : (len : ℕ) (a b : Arena) (number at : ℕ) → sensible a len ≡ true → 2 * number ≤ 2 * number_limit + end_of a
-    → room_for a len (block_size (number + 1) + link_size) ≡ At at b
+    → room_for a len (block_size (number + 1) + link_size) ≡ room_at at b
     → (sensible b len ≡ true) × (2 * (number + 1) ≤ 2 * number_limit + end_of b)
 plan_room len a b number at e h f =
     let s = sensible_facts a len e in
@@ -73,13 +62,13 @@ module _ {len l₀ n₀ : ℕ} {a₀ : Arena} {l n : ℕ} {a : Arena} (p : Plann
   planning-end e = p.rest ∙ rw e (plan_end len a n)
 
   -- a turn, by the size and the room that code found
-  pub planning-turn : {size : ℕ} {r : Allocated} → 0 < l → size ≡ block_size (n + 1)
+  pub planning-turn : {size : ℕ} {r : MaybeRoom} → 0 < l → size ≡ block_size (n + 1)
       → r ≡ room_for a len (size + link_size)
       → planned l₀ len a₀ n₀ l₀ ≡ on_room_dry r (λ c. planned (l - size) len c (n + 1) (l - size))
   planning-turn z e f = p.rest ∙ plan_turn len a n l z ∙ rw (f, e)
 
-  pub planning-next : {size : ℕ} {r : Allocated} {at : ℕ} {b : Arena} {left : ℕ} → 0 < l → size ≡ block_size (n + 1)
-      → r ≡ room_for a len (size + link_size) → r ≡ At at b → left ≡ l - size → Planning len l₀ n₀ a₀ left (n + 1) b
+  pub planning-next : {size : ℕ} {r : MaybeRoom} {at : ℕ} {b : Arena} {left : ℕ} → 0 < l → size ≡ block_size (n + 1)
+      → r ≡ room_for a len (size + link_size) → r ≡ room_at at b → left ≡ l - size → Planning len l₀ n₀ a₀ left (n + 1) b
   planning-next {at = at} {b = b} z e f g q =
       let k = plan_room len a b n at p.sense p.few (rw (← e) (sym f ∙ g)) in
       record { rest = planning-turn z e f ∙ rw (g, q); sense = k.0; few = k.1 }
@@ -87,19 +76,20 @@ module _ {len l₀ n₀ : ℕ} {a₀ : Arena} {l n : ℕ} {a : Arena} (p : Plann
 -- ---- the append's steps, as code makes them
 
 -- where a byte waits, a plan that has room names it
-pub waiting_room : (len : ℕ) (a : Arena) (h : Header) (r : Allocated) → h.remaining ≡ 0
+pub waiting_room : (len : ℕ) (a : Arena) (h : Header) (r : MaybeRoom) → h.remaining ≡ 0
     → r ≡ room_for a len (next_wide h)
-    → is_some (plan_of len a h 1) ≡ true → OneOf (1 ∷ 2 ∷ []) (tag_of the_type r) → ⊥
-waiting_room len a h r z e p o =
+    → is_some (plan_of len a h 1) ≡ true → IsSome r
+waiting_room len a h (Some r) z e p = refl
+waiting_room len a h None z e p =
     let q : plan_of len a h 1 ≡ none =
-    plan_left len a h 1 1 (omega arith) ∙ plan_turn len a h.number 1 (omega arith) ∙ rw (← e) (no_room r _ o) in
-    false≢true (sym (ap is_some q) ∙ p)
+    plan_left len a h 1 1 (omega arith) ∙ plan_turn len a h.number 1 (omega arith) ∙ rw (← e) in
+    sym (ap is_some q) ∙ p
 
 -- a block taken, where nothing remains
-pub block_taken : (w : Writing) {r : Allocated} {at : ℕ} {b : Arena} → w.header.remaining ≡ 0
-    → r ≡ room_for w.arena (length w.memory) (next_wide w.header) → r ≡ At at b
+pub block_taken : (w : Writing) {r : MaybeRoom} {at : ℕ} {b : Arena} → w.header.remaining ≡ 0
+    → r ≡ room_for w.arena (length w.memory) (next_wide w.header) → r ≡ room_at at b
     → ready w ≡ some (with_block at b w)
-block_taken w z e f = ready-taken w z ∙ ap (λ (x : Allocated). on_room x w) (sym e ∙ f)
+block_taken w z e f = ready-taken w z ∙ ap (λ (x : MaybeRoom). on_room x w) (sym e ∙ f)
 
 -- bytes that fit the last block, which lies in the memory
 pub record Chunk (v : Writing) (n : ℕ) : Type 0 where
@@ -121,13 +111,12 @@ chunk-fits {v = v} n k h =
 
 -- ---- the append's loop
 
--- what holds while an append writes: the outcome is that of the rest
-pub record Extending (bs : List ℕ) (w₀ w : Writing) (i : ℕ) : Type 0 where
-  pub at_most : i ≤ length bs
+-- what holds while an append writes: the outcome is that of the bytes that still wait
+pub record Extending (bs : List ℕ) (w₀ : Writing) (rest : List ℕ) (w : Writing) : Type 0 where
   pub reached : Reached w₀ w
-  pub rest : appended bs w₀ ≡ appended (drop i bs) w
+  pub same : appended bs w₀ ≡ appended rest w
 
-module _ {bs : List ℕ} {w₀ w : Writing} {i : ℕ} (k : Extending bs w₀ w i) where
+module _ {bs rest : List ℕ} {w₀ w : Writing} (k : Extending bs w₀ rest w) where
   -- a block number on the way, from a sound header
   pub extending-few : w₀.header.number ≤ number_limit → 2 * w.header.number ≤ 2 * number_limit + arena_limit
   extending-few l =
@@ -135,14 +124,14 @@ module _ {bs : List ℕ} {w₀ w : Writing} {i : ℕ} (k : Extending bs w₀ w i
       (omega (arith, k.reached.onward.end_up))
 
   -- where a byte waits, the plan has room for one more
-  pub extending-room : i < length bs → is_some (plan_of (length w₀.memory) w₀.arena w₀.header (length bs)) ≡ true
+  pub extending-room : 0 < length rest → is_some (plan_of (length w₀.memory) w₀.arena w₀.header (length bs)) ≡ true
       → is_some (plan_of (length w.memory) w.arena w.header 1) ≡ true
   unfolding appended
   extending-room h p =
       let f = plan_fits bs w₀ p in
-      go (ready w) refl (sym (appended-ready (drop i bs) w (simp length-drop (omega arith))) ∙ sym k.rest ∙ f.whole)
+      go (ready w) refl (sym (appended-ready rest w h) ∙ sym k.same ∙ f.whole)
     where
-      go : (o : Option Writing) → ready w ≡ o → {v : Writing} → and_then o (appended (drop i bs)) ≡ some v
+      go : (o : Option Writing) → ready w ≡ o → {v : Writing} → and_then o (appended rest) ≡ some v
           → is_some (plan_of (length w.memory) w.arena w.header 1) ≡ true
       go none q e = never _ e
       go (some u) q e =
@@ -152,29 +141,30 @@ module _ {bs : List ℕ} {w₀ w : Writing} {i : ℕ} (k : Extending bs w₀ w i
   pub extending-ready : {v : Writing} → some v ≡ ready w → Readied w v
   extending-ready {v} e = ready-reached w v k.reached.working (sym e)
 
-  pub extending-next : {v u : Writing} {n : ℕ} → i < length bs → some v ≡ ready w
-      → n ≡ min v.header.remaining (length bs - i)
-      → u ≡ filled (take (i + n - i) (drop i bs)) v → Extending bs w₀ u (i + n)
-  extending-next {v} {u} {n} h e q f =
+  -- as many bytes as wait and fit
+  pub extending-next : {v u : Writing} {n : ℕ} {chunk after : List ℕ} → 0 < length rest → some v ≡ ready w
+      → n ≡ min (length rest) v.header.remaining → chunk ≡ take n rest → after ≡ drop n rest
+      → u ≡ filled chunk v → Extending bs w₀ after u
+  extending-next {v} {u} {n} {chunk} {after} h e q c d f =
       let r = extending-ready e in
-      let d = drop i bs in
-      let s : i + n - i ≡ n = omega arith in
-      let l : length (take n d) ≡ n = simp (length-take, length-drop) (omega arith) in
-      let x = filled (take n d) v in
-      let g : u ≡ x = f ∙ rw s in
-      let chunk : Reached v x = filled-reached (take n d) v r.reached.working r.room (omega arith) in
+      let l : length chunk ≤ v.header.remaining = rw c (simp length-take (omega arith)) in
+      let g : Reached v u = rw f (filled-reached chunk v r.reached.working r.room l) in
       record {
-        at_most = omega arith;
-        reached = subst (Reached w₀) (sym g) (reached_then w₀ w x k.reached (reached_then w v x r.reached chunk));
-        rest =
-            k.rest
-            ∙ appended-ready d w (simp length-drop (omega arith))
-            ∙ ap (λ (o : Option Writing). and_then o (appended d)) (sym e)
-            ∙ ap (λ (y : List ℕ). appended y v) (sym (take-append-drop n d))
-            ∙ appended-chunk (take n d) (drop n d) v (omega arith)
-            ∙ (λ j. appended (drop-drop n i bs j) (sym g j));
+        reached = reached_then w₀ w u k.reached (reached_then w v u r.reached g);
+        same =
+            k.same
+            ∙ appended-ready rest w h
+            ∙ ap (λ (o : Option Writing). and_then o (appended rest)) (sym e)
+            ∙ ap (λ (y : List ℕ). appended y v) (sym (take-append-drop n rest))
+            ∙ (λ i. appended (sym c i ++ sym d i) v)
+            ∙ appended-chunk chunk after v l
+            ∙ ap (appended after) (sym f);
       }
 
-  pub extending-end : length bs ≤ i → some w ≡ appended bs w₀
+  pub extending-end : length rest ≡ 0 → some w ≡ appended bs w₀
   unfolding appended
-  extending-end h = sym (k.rest ∙ rw (drop_of_length-le bs {i = i} h))
+  extending-end h = sym (k.same ∙ go rest h)
+    where
+      go : (r : List ℕ) → length r ≡ 0 → appended r w ≡ some w
+      go [] e = refl
+      go (b ∷ r) e = absurd (omega arith)

@@ -2,14 +2,13 @@
 -- remaining is 0; the old tail then points at the link, which receives the new address. A new block's unfilled bytes
 -- and link keep what they held."
 use Rattle.std.specs.Prelude.{ℕ, zero, suc, ◌+◌, ◌-◌, Bool, true, false, cond, List, [], ◌∷◌, eqb, length}
+use Rattle.std.specs.Prelude.{Some, None}
 use Rattle.std.proofs.Math.Option.{Option, none, some}
 use Rattle.limits.specs.Limits.{fresh_number, link_size}
 use Rattle.numbers.specs.LittleEndian.{le_bytes}
 use Rattle.spans.specs.Span.{overwrite}
 use Rattle.memory_arena.specs.declared.Arena.{Arena}
-use Rattle.memory_arena.specs.declared.Allocated.{Allocated}
-use Rattle.memory_arena.specs.declared.Allocated.TheVariants.{At, NoRoom, Refused}
-use Rattle.memory_arena.specs.Pages.{room_for, good_span}
+use Rattle.memory_arena.specs.Pages.{MaybeRoom, room_for, good_span}
 use Rattle.expull_header.specs.declared.Header.{Header}
 use Rattle.expull_header.specs.Header.{block_size}
 
@@ -47,10 +46,9 @@ abbrev pub with_block : ℕ → Arena → Writing → Writing
 with_block at a w = writing (linked at w.header w.memory) a (header_with at w.header)
 
 -- RULES S2, S7. A block taken, where the pages have room.
-abbrev pub on_room : Allocated → Writing → Option Writing
-on_room (At at a) w = some (with_block at a w)
-on_room NoRoom w = none
-on_room (Refused n) w = none
+abbrev pub on_room : MaybeRoom → Writing → Option Writing
+on_room (Some r) w = some (with_block r.at r.after w)
+on_room None w = none
 
 -- RULES S2. The next block, tried.
 abbrev pub take_block : Writing → Option Writing
@@ -84,10 +82,9 @@ appended (b ∷ bs) w = and_then (ready w) (λ v. appended bs (filled (b ∷ [])
 -- ---- the dry run: from the numbers alone
 
 -- RULES S8. Where a block fits, on from the arena's state after it.
-abbrev pub on_room_dry : Allocated → (Arena → Option Arena) → Option Arena
-on_room_dry (At at a) k = k a
-on_room_dry NoRoom k = none
-on_room_dry (Refused n) k = none
+abbrev pub on_room_dry : MaybeRoom → (Arena → Option Arena) → Option Arena
+on_room_dry (Some r) k = k r.after
+on_room_dry None k = none
 
 -- RULES S8. The arena's state after the blocks for n waiting bytes, where block number b is the last taken; none
 -- where they don't all fit. Each turn takes a block for at least one byte, so n turns are enough.

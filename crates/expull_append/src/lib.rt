@@ -14,7 +14,7 @@ ghost use Rattle.expull_append.specs.Append.{writing, head_with, linked, ready, 
 ghost use Rattle.expull_append.specs.Append.{good_tail};
 
 use expull_header::Header;
-use memory_arena::{Allocated, Arena};
+use memory_arena::Arena;
 
 // A list's header and its arena's state after an append.
 #[derive(Clone, Copy)]
@@ -28,21 +28,8 @@ pub fn is_good_tail(arena: Arena, h: Header) -> bool
     requires { page_taken arena.size ≡ true }
     ensures { result ≡ good_tail arena h }
 {
-    if h.number == limits::FIRST_BLOCK_NUM {
-        return true;
-    }
-    let n = h.remaining as usize;
-    memory_arena::is_good_span(arena, h.tail, n + limits::LINK)
-}
-
-// a less b, and 0 where b is the larger.
-fn less(a: usize, b: usize) -> usize
-    ensures { result ≡ a - b }
-{
-    if a < b {
-        return 0;
-    }
-    a - b
+    h.number == limits::FIRST_BLOCK_NUM
+        || arena.is_good_span(h.tail, h.remaining as usize + limits::LINK)
 }
 
 // The dry run: whether the blocks that an append of n bytes needs all fit.
@@ -50,18 +37,17 @@ pub fn blocks_fit(arena: Arena, len: usize, h: Header, n: usize) -> bool
     requires { (sensible arena len ≡ true) × (h.number ≤ number_limit) }
     ensures { result ≡ is_some (plan_of len arena h n) }
 {
-    let mut left = less(n, h.remaining as usize);
+    let mut left = n.saturating_sub(h.remaining as usize);
     let mut number = h.number;
     let mut state = arena;
     while 0 < left {
         number += 1;
         let size = expull_header::get_block_size(number) as usize;
-        let Allocated::At(_, after) = memory_arena::find_room(state, len, size + limits::LINK)
-        else {
+        let Some(room) = state.find_room(len, size + limits::LINK) else {
             return false;
         };
-        state = after;
-        left = less(left, size);
+        state = room.after;
+        left = left.saturating_sub(size);
     }
     true
 }
@@ -79,7 +65,7 @@ fn put_link(lists: &mut [u8], h: Header, at: u32) -> u32
     h.head
 }
 
-// Takes a block where nothing remains of the last. The plan has room for it, so the `else` is never run.
+// Takes a block where nothing remains of the last. The plan has room for it.
 fn ensure_capacity(lists: &mut [u8], w: Extended) -> Extended
     requires { (sensible w.arena (length lists.old) ≡ true)
         × ((good_tail w.arena w.header ≡ true)
@@ -89,25 +75,22 @@ fn ensure_capacity(lists: &mut [u8], w: Extended) -> Extended
         ≡ ready (writing lists.old w.arena w.header) }
 {
     let h = w.header;
-    let arena = w.arena;
     if h.remaining != 0 {
         return w;
     }
     let number = h.number + 1;
     let size = expull_header::get_block_size(number);
     let wide = size as usize + limits::LINK;
-    let Allocated::At(at, after) = memory_arena::find_room(arena, lists.len(), wide) else {
-        return w;
-    };
-    let head = put_link(lists, h, at);
+    let room = w.arena.find_room(lists.len(), wide).unwrap();
+    let head = put_link(lists, h, room.at);
     Extended {
         header: Header {
             number,
             head,
-            tail: at,
+            tail: room.at,
             remaining: size,
         },
-        arena: after,
+        arena: room.after,
     }
 }
 
@@ -119,17 +102,15 @@ pub fn put_chunk(lists: &mut [u8], w: Extended, bytes: &[u8]) -> Extended
         ≡ filled bytes.now (writing lists.old w.arena w.header) }
 {
     let h = w.header;
-    let arena = w.arena;
     fastcpy::copy_in(lists, h.tail as usize, bytes);
     let n = bytes.len() as u32;
     Extended {
         header: Header {
-            number: h.number,
-            head: h.head,
             tail: memory_arena::offset(h.tail, n),
             remaining: h.remaining - n,
+            ..h
         },
-        arena,
+        ..w
     }
 }
 
@@ -142,14 +123,13 @@ pub fn extend_from_slice(lists: &mut [u8], arena: Arena, h: Header, bytes: &[u8]
         ≡ appended bytes.now (writing lists.old arena h) }
 {
     let mut w = Extended { header: h, arena };
-    let mut i = 0;
-    while i < bytes.len() {
+    let mut rest = bytes;
+    while !rest.is_empty() {
         let v = ensure_capacity(lists, w);
-        let last = v.header;
-        let k = numbers::least(last.remaining as usize, bytes.len() - i);
-        let e = i + k;
-        w = put_chunk(lists, v, &bytes[i..e]);
-        i = e;
+        let n = rest.len().min(v.header.remaining as usize);
+        let (chunk, after) = rest.split_at(n);
+        w = put_chunk(lists, v, chunk);
+        rest = after;
     }
     w
 }

@@ -39,7 +39,7 @@ fn walk(lists: &[u8], arena: Arena, head: u32, n: u32) -> Walked
     let mut i = 0;
     while i < n {
         let size = expull_header::get_block_size(i + 3) as usize;
-        if !memory_arena::is_good_span(arena, place, size + limits::LINK) {
+        if !arena.is_good_span(place, size + limits::LINK) {
             return Walked::Stopped;
         }
         place = spans::get_u32(lists, place as usize + size);
@@ -62,7 +62,7 @@ pub fn are_good_blocks(lists: &[u8], arena: Arena, head: u32, n: u32) -> bool
         return false;
     };
     let size = expull_header::get_block_size(last + 3) as usize;
-    memory_arena::is_good_span(arena, place, size + limits::LINK)
+    arena.is_good_span(place, size + limits::LINK)
 }
 
 // A reading: a lane's bytes to the front of the output.
@@ -119,7 +119,7 @@ pub fn find_block(lists: &[u8], arena: Arena, h: Header, index: usize) -> Block
         return Block::BadBlock;
     };
     let size = expull_header::get_block_size(i + 3) as usize;
-    if !memory_arena::is_good_span(arena, place, size + limits::LINK) {
+    if !arena.is_good_span(place, size + limits::LINK) {
         return Block::BadBlock;
     }
     Block::BlockAt(place, block_length(h, i))

@@ -14,9 +14,7 @@ use Rattle.limits.specs.Refusals.{number_of as number_for}
 use Rattle.limits.specs.declared.Refusal.{Refusal}
 use Rattle.limits.specs.declared.Refusal.TheVariants.{NameTooLong, Nameless}
 use Rattle.memory_arena.specs.declared.Arena.{Arena}
-use Rattle.memory_arena.specs.declared.Allocated.{Allocated}
-use Rattle.memory_arena.specs.declared.Allocated.TheVariants.{At, NoRoom, Refused}
-use Rattle.memory_arena.specs.Pages.{room_for}
+use Rattle.memory_arena.specs.Pages.{MaybeRoom, room_for}
 use Rattle.memory_arena.proofs.Laws.{sensible_facts}
 use Rattle.expull_header.specs.Header.{fresh}
 use Rattle.expull_append.specs.Append.{plan_of}
@@ -53,6 +51,7 @@ use Rattle.flat_store.proofs.Promises.{flat_demand_3}
 use Rattle.flat_history.specs.Alike.{standing_only, by_name, Alike, BothRefuse}
 use Rattle.flat_history.specs.Agreement.{SameRecord, WidePages, Agreement}
 use Rattle.flat_history.specs.Cases.{start, born, calls, unrefused_case}
+use Rattle.std.specs.Prelude.{Some, None}
 
 -- ---- a name, by what is held of it
 
@@ -131,10 +130,9 @@ blocks-room : (a : Option Arena) → by_name (due_blocks a) ≡ 0
 blocks-room none = refl
 blocks-room (some a) = refl
 
-record-room : (a : Allocated) (k : ℕ) → by_name k ≡ 0 → by_name (due_record a k) ≡ 0
-record-room (At at a) k e = e
-record-room NoRoom k e = refl
-record-room (Refused m) k e = refl
+record-room : (a : MaybeRoom) (k : ℕ) → by_name k ≡ 0 → by_name (due_record a k) ≡ 0
+record-room (Some r) k e = e
+record-room None k e = refl
 
 bucket-room : (t : Bool) (k : ℕ) → by_name k ≡ 0 → by_name (cond t 5 k) ≡ 0
 bucket-room true k e = refl

@@ -10,9 +10,7 @@ use lib.ListN.{length}
 use borrow.Author.Tests.{le-leb}
 use Rattle.limits.specs.Limits.{record_extra}
 use Rattle.memory_arena.specs.declared.Arena.{Arena}
-use Rattle.memory_arena.specs.declared.Allocated.{Allocated}
-use Rattle.memory_arena.specs.declared.Allocated.TheVariants.{At, NoRoom, Refused}
-use Rattle.memory_arena.specs.Pages.{room_for}
+use Rattle.memory_arena.specs.Pages.{MaybeRoom, room_at, room_for}
 use Rattle.shared_arena_hashmap.specs.declared.Met.TheVariants.{Empty, Standing, Lap}
 use Rattle.expull_header.specs.declared.Header.{Header}
 use Rattle.expull_header.specs.Header.{fresh}
@@ -38,6 +36,7 @@ use Rattle.history.specs.Due.{due_blocks, due_record, due_list, due_new}
 use Rattle.history.specs.Sound.{Ghosts, Stands, Sound}
 use Rattle.history.proofs.Records.{record_key, record-good, record-header, record-sound}
 use Rattle.history.proofs.Kept.{Took, key_stands, standing_left, took_standing, new-left, took_new}
+use Rattle.std.specs.Prelude.{Some, None}
 
 -- ---- the lookup of a name in a sound store
 
@@ -151,7 +150,7 @@ module _ {w : World} {G : Ghosts} (S : Sound w G) (name bytes : List ℕ) where
           (walk-misses S name M)
 
       new_written_lem : (loose : is_crowded w.state ≡ false) (at : ℕ) (ka : Arena)
-          → room_for w.state.key_arena (length w.memory.keys) (length name + record_extra) ≡ At at ka
+          → room_for w.state.key_arena (length w.memory.keys) (length name + record_extra) ≡ room_at at ka
           → (o : Option Writing)
           → appended bytes (writing w.memory.lists w.state.list_arena fresh) ≡ o
           → append_in w name bytes ≡ new_written o w.state w.memory name at ka
@@ -168,17 +167,16 @@ module _ {w : World} {G : Ghosts} (S : Sound w G) (name bytes : List ℕ) where
                 (accepted_whole (new-left S name bytes M proper loose at ka r v e) p);
           })
 
-      new_roomed : (loose : is_crowded w.state ≡ false) (r : Allocated)
+      new_roomed : (loose : is_crowded w.state ≡ false) (r : MaybeRoom)
           → room_for w.state.key_arena (length w.memory.keys) (length name + record_extra) ≡ r
           → append_in w name bytes ≡ on_key_room r w.state w.memory name bytes
           → Answers w G name bytes (due_record r (due_list w.state w.memory fresh (length bytes)))
       unfolding on_key_room due_list
-      new_roomed loose (At at ka) r p =
+      new_roomed loose (Some found) r p =
           rw (lane_plan w.memory.lists w.state.list_arena fresh bytes)
-          (new_written_lem loose at ka r
+          (new_written_lem loose found.at found.after r
           (appended bytes (writing w.memory.lists w.state.list_arena fresh)) refl p)
-      new_roomed loose NoRoom r p = inl (record { some_number = λ z. omega arith; said = p })
-      new_roomed loose (Refused n) r p = inl (record { some_number = λ z. omega arith; said = p })
+      new_roomed loose None r p = inl (record { some_number = λ z. omega arith; said = p })
 
       pub answers-new : Answers w G name bytes (due_new w.state w.memory name (length bytes))
       unfolding due_new

@@ -12,7 +12,6 @@ use Rattle.shared_arena_hashmap.specs.Buckets.{cleared}
 use Rattle.shared_arena_hashmap.proofs.Laws.{power_facts, rounded_is_power}
 use Rattle.expull_header.specs.Header.{fresh}
 use Rattle.store_state.specs.declared.State.{State}
-use Rattle.store_create.specs.declared.Created.TheVariants.{Made, Barred}
 use Rattle.store_create.specs.Create.{Out, out, creatable, fresh_state}
 use Rattle.store_look.specs.Look.{lent, checked}
 use Rattle.store_create.proofs.Creation.{creatable-room, create_made, create_barred}
@@ -20,6 +19,9 @@ use Rattle.store.proofs.Kept.{create_whole}
 use Rattle.history_names.proofs.Grow.{clears, clears_none, clears_count}
 use Rattle.history.specs.History.{World, Born}
 use Rattle.history.specs.Sound.{Ghosts, Stands, Sound}
+use Rattle.std.specs.Prelude.{Ok, Err}
+use Rattle.store_create.specs.Create.{Created}
+use Rattle.limits.specs.declared.Refusal.TheVariants.{NotCreatable}
 
 -- no names
 abbrev pub nobody : ℕ → Ghosts
@@ -57,15 +59,15 @@ module _ (capacity seed size : ℕ) (table keys lists : List ℕ) where
     lanes_apart = λ k n x y f. absurd (clears_none l k x);
   }
 
-  made_is : (s s' : State) (t t' : List ℕ) → out (Made s) t ≡ out (Made s') t' → (s ≡ s') × (t ≡ t')
+  made_is : (s s' : State) (t t' : List ℕ) → out (Ok s) t ≡ out (Ok s') t' → (s ≡ s') × (t ≡ t')
   made_is s s' t t' e = (inside (ap (λ (o : Out). o.answer) e), ap (λ (o : Out). o.table) e)
     where
-      inside : Made s ≡ Made s' → s ≡ s'
+      inside : ◌≡◌ {A = Created} (Ok s) (Ok s') → s ≡ s'
       inside e = cc
 
-  never : (t t' : List ℕ) (s : State) → out (Barred 1) t ≡ out (Made s) t' → ⊥
+  never : (t t' : List ℕ) (s : State) → out (Err NotCreatable) t ≡ out (Ok s) t' → ⊥
   never t t' s e =
-      let q : Barred 1 ≡ Made s = ap (λ (o : Out). o.answer) e in let z : ◌≡◌ {A = ℕ} 0 1 = cc in omega arith
+      let q : ◌≡◌ {A = Created} (Err NotCreatable) (Ok s) = ap (λ (o : Out). o.answer) e in let z : ◌≡◌ {A = ℕ} 0 1 = cc in omega arith
 
   -- what is born is the start
   pub born-start : (w : World) → Born capacity seed size table keys lists w

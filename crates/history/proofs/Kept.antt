@@ -16,10 +16,9 @@ use Rattle.spans.specs.Span.{overwrite, Apart}
 use Rattle.spans.proofs.Laws.{read-apart}
 use Rattle.murmurhash2.specs.Murmur.{murmur_hash2}
 use Rattle.memory_arena.specs.declared.Arena.{Arena}
-use Rattle.memory_arena.specs.declared.Allocated.TheVariants.{At}
 use Rattle.memory_arena.specs.Address.{place_of}
-use Rattle.memory_arena.specs.Pages.{standing, room_for}
-use Rattle.memory_arena.proofs.Laws.{place_of_lem, Room, room_size, room_facts, room_in, Sensible, sensible_facts}
+use Rattle.memory_arena.specs.Pages.{room_at, standing, room_for}
+use Rattle.memory_arena.proofs.Laws.{place_of_lem, Placed, room_size, room_facts, room_in, Sensible, sensible_facts}
 use Rattle.memory_arena.proofs.Laws.{sensible_short}
 use Rattle.shared_arena_hashmap.specs.Power.{grown_length}
 use Rattle.records.specs.Record.{value_place, record_bytes}
@@ -99,7 +98,7 @@ pub record Leaves (w : World) (G : Ghosts) (name bytes : List ℕ) (w' : World) 
   pub keys_used : Stands G name → w'.state.key_arena ≡ w.state.key_arena
   pub keys_room : (Stands G name → ⊥)
       → room_for w.state.key_arena (length w.memory.keys) (length name + record_extra)
-      ≡ At (G'.place name) w'.state.key_arena
+      ≡ room_at (G'.place name) w'.state.key_arena
   pub keys_above : (Stands G name → ⊥) → (used_end w.state.key_arena ≤ G'.place name)
       × (used_end w'.state.key_arena ≡ G'.place name + (length name + record_extra))
   pub keys-standing : Stands G name → (q n : ℕ) → Apart (value_place w.memory.keys (G.place name)) value_size q n
@@ -326,7 +325,7 @@ module _ {w : World} {G : Ghosts} (S : Sound w G) where
 
   module _ (name bytes : List ℕ) (M : Stands G name → ⊥) (proper : name_kind w.state (length name) ≡ Proper)
       (loose : is_crowded w.state ≡ false) (at : ℕ) (ka : Arena)
-      (r : room_for w.state.key_arena (length w.memory.keys) (length name + record_extra) ≡ At at ka)
+      (r : room_for w.state.key_arena (length w.memory.keys) (length name + record_extra) ≡ room_at at ka)
       (v : Writing)
       (e : appended bytes (writing w.memory.lists w.state.list_arena fresh) ≡ some v) where
     abbrev pub new-left : World
@@ -345,7 +344,7 @@ module _ {w : World} {G : Ghosts} (S : Sound w G) where
         lane-appended w.memory.lists w.state.list_arena fresh [] bytes v
         (lane-fresh w.memory.lists w.state.list_arena list_stands list_short) e
 
-    room : Room w.state.key_arena (length w.memory.keys) (length name + record_extra) at ka
+    room : Placed w.state.key_arena (length w.memory.keys) (length name + record_extra) at ka
     room =
         room_facts w.state.key_arena (length w.memory.keys) (length name + record_extra) at ka
         (omega arith) key_stands r

@@ -10,9 +10,7 @@ use lib.ListN.{length}
 use borrow.Author.Tests.{leb-true, leb-false, ltb-true, ltb-false}
 use Rattle.limits.specs.Limits.{record_extra}
 use Rattle.memory_arena.specs.declared.Arena.{Arena}
-use Rattle.memory_arena.specs.declared.Allocated.{Allocated}
-use Rattle.memory_arena.specs.declared.Allocated.TheVariants.{At as RoomAt, NoRoom, Refused as RoomRefused}
-use Rattle.memory_arena.specs.Pages.{room_for}
+use Rattle.memory_arena.specs.Pages.{MaybeRoom, room_for}
 use Rattle.expull_header.specs.declared.Header.{Header}
 use Rattle.expull_header.specs.Header.{fresh}
 use Rattle.expull_append.specs.Append.{plan_of}
@@ -35,6 +33,7 @@ use Rattle.history.specs.Due.{shape_of, due_blocks, due_record, due_list, due_ne
 use Rattle.history.specs.Numbers.{lookup_number, answer_number, listed_number, counted_number, number_of}
 use Rattle.history.specs.Numbers.{due_named, due_read, due_of, numbers_of, is_one_of}
 use Rattle.history.specs.Promises.{blocks_for, ReadsAs, AnswersDue, HasNames}
+use Rattle.std.specs.Prelude.{Some, None}
 
 -- ---- which numbers can be due
 
@@ -50,16 +49,15 @@ listed_list : (st : State) (m : Lent) (h : Header) (n : ℕ) → is_one_of due_n
 unfolding due_list
 listed_list st m h n = listed_blocks (plan_of (length m.lists) st.list_arena h n)
 
-listed_record : (r : Allocated) (n : ℕ) → is_one_of due_numbers n ≡ true → is_one_of due_numbers (due_record r n) ≡ true
-listed_record (RoomAt at a) n e = e
-listed_record NoRoom n e = refl
-listed_record (RoomRefused k) n e = refl
+listed_record : (r : MaybeRoom) (n : ℕ) → is_one_of due_numbers n ≡ true → is_one_of due_numbers (due_record r n) ≡ true
+listed_record (Some r) n e = e
+listed_record None n e = refl
 
 listed_new : (st : State) (m : Lent) (name : List ℕ) (n : ℕ) → is_one_of due_numbers (due_new st m name n) ≡ true
 unfolding due_new
 listed_new st m name n = go (is_crowded st)
   where
-    room : Allocated
+    room : MaybeRoom
     room = room_for st.key_arena (length m.keys) (length name + record_extra)
 
     go : (b : Bool) → is_one_of due_numbers (cond b 5 (due_record room (due_list st m fresh n))) ≡ true

@@ -5,9 +5,7 @@ use Rattle.std.specs.Prelude.{ℕ, zero, suc, ◌+◌, ◌-◌, cond, List, eqb,
 use Rattle.std.proofs.Math.Option.{Option, none, some}
 use Rattle.limits.specs.Limits.{null_address, record_extra}
 use Rattle.memory_arena.specs.declared.Arena.{Arena}
-use Rattle.memory_arena.specs.declared.Allocated.{Allocated}
-use Rattle.memory_arena.specs.declared.Allocated.TheVariants.{At, NoRoom, Refused}
-use Rattle.memory_arena.specs.Pages.{room_for}
+use Rattle.memory_arena.specs.Pages.{MaybeRoom, room_for}
 use Rattle.expull_header.specs.declared.Header.{Header}
 use Rattle.expull_header.specs.Header.{block_size, fresh}
 use Rattle.expull_append.specs.Append.{plan_of}
@@ -15,6 +13,7 @@ use Rattle.store_state.specs.declared.State.{State}
 use Rattle.store_state.specs.Name.{name_kind, by_kind}
 use Rattle.store_look.specs.Look.{Lent}
 use Rattle.store_append.specs.Append.{is_crowded}
+use Rattle.std.specs.Prelude.{Some, None}
 
 -- RULES Y7. The header of a list that holds n bytes, as far as its length settles it: block number and remaining bytes.
 -- What an append needs hangs on no address.
@@ -40,10 +39,9 @@ due_blocks none = 7
 due_blocks (some a) = 0
 
 -- RULES Y7. 6: a new name's record doesn't fit the key pages
-abbrev pub due_record : Allocated → ℕ → ℕ
-due_record (At at a) number = number
-due_record NoRoom number = 6
-due_record (Refused n) number = 6
+abbrev pub due_record : MaybeRoom → ℕ → ℕ
+due_record (Some r) number = number
+due_record None number = 6
 
 -- RULES Y7. Of n bytes for a list with a header, and for a new name
 unfoldable pub due_list : State → Lent → Header → ℕ → ℕ

@@ -5,8 +5,7 @@ use Rattle.std.proofs.Math.Option.{Option}
 use Rattle.limits.specs.Limits.{record_extra, value_size, link_size}
 use Rattle.spans.specs.Span.{read_span, Apart}
 use Rattle.murmurhash2.specs.Murmur.{murmur_hash2}
-use Rattle.memory_arena.specs.declared.Allocated.TheVariants.{At as RoomAt}
-use Rattle.memory_arena.specs.Pages.{room_for}
+use Rattle.memory_arena.specs.Pages.{room_at, room_for}
 use Rattle.shared_arena_hashmap.specs.Power.{grown_length}
 use Rattle.records.specs.Record.{value_place, header_of}
 use Rattle.expull_header.specs.declared.Header.{Header}
@@ -77,7 +76,7 @@ pub record LeavesAlone (w w' : World) (name : List ℕ) (stood : Option (List �
   -- it is above all that was used. A standing name uses no more.
   pub keys_room : is_joined stood ≡ false
       → room_for w.state.key_arena (length (keys_in w)) (length name + record_extra)
-      ≡ RoomAt at w'.state.key_arena
+      ≡ room_at at w'.state.key_arena
   pub keys_above : is_joined stood ≡ false
       → (keys_end w ≤ at) × (keys_end w' ≡ at + (length name + record_extra))
   pub keys_used : is_joined stood ≡ true → w'.state.key_arena ≡ w.state.key_arena

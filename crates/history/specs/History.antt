@@ -7,12 +7,12 @@ use Rattle.fastcmp.specs.Equal.{equal_bytes}
 pub use Rattle.entries.specs.Log.{Entry, entry, joined_on}
 unfoldable pub use Rattle.entries.specs.Log.{joined_in}
 use Rattle.store_state.specs.declared.State.{State}
-use Rattle.store_create.specs.declared.Created.TheVariants.{Made}
 use Rattle.store_append.specs.declared.Appended.{Appended}
 use Rattle.store_append.specs.declared.Appended.TheVariants.{Accepted, Declined}
 use Rattle.store_create.specs.Create.{out, create_of}
 use Rattle.store_look.specs.Look.{Lent}
 use Rattle.store_append.specs.Append.{Out, append_of}
+use Rattle.std.specs.Prelude.{Ok}
 
 -- RULES Y1. A store: its state, and the memory lent to it
 pub record World : Type 0 where
@@ -70,7 +70,7 @@ play (c ∷ calls) w = play calls (after c w)
 
 -- RULES Y1. The start: what an accepted creation leaves of the lent table, key pages and list pages, whatever they held
 pub record Born (capacity seed size : ℕ) (table keys lists : List ℕ) (w : World) : Type 0 where
-  pub made : create_of capacity seed size table (length keys) (length lists) ≡ out (Made w.state) w.memory.table
+  pub made : create_of capacity seed size table (length keys) (length lists) ≡ out (Ok w.state) w.memory.table
   pub keys_lent : w.memory.keys ≡ keys
   pub lists_lent : w.memory.lists ≡ lists
 

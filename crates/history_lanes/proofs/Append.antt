@@ -16,11 +16,9 @@ use Rattle.numbers.proofs.Laws.{length_le}
 use Rattle.spans.specs.Span.{read_span, overwrite, Apart}
 use Rattle.spans.proofs.Laws.{length-overwrite, read_before, read-apart, read_extended, span_none, number_back}
 use Rattle.memory_arena.specs.declared.Arena.{Arena}
-use Rattle.memory_arena.specs.declared.Allocated.{Allocated}
-use Rattle.memory_arena.specs.declared.Allocated.TheVariants.{At, NoRoom, Refused}
 use Rattle.memory_arena.specs.Address.{place_of}
-use Rattle.memory_arena.specs.Pages.{standing, room_for}
-use Rattle.memory_arena.proofs.Laws.{place_of_lem, standing_facts, standing_made, Room, room_size, room_facts}
+use Rattle.memory_arena.specs.Pages.{MaybeRoom, room_at, standing, room_for}
+use Rattle.memory_arena.proofs.Laws.{place_of_lem, standing_facts, standing_made, Placed, room_size, room_facts}
 use Rattle.expull_header.specs.declared.Header.{Header}
 use Rattle.expull_header.specs.Header.{block_size, fresh}
 use Rattle.expull_header.proofs.Laws.{size_pos}
@@ -30,6 +28,7 @@ use Rattle.history_lanes.specs.Lane.{size_on, wide_on, full_content, content, Li
 use Rattle.history_lanes.specs.Lane.{TipApart, TipClear, used_end, Lane, After}
 use Rattle.history_lanes.proofs.Blocks.{apart-within, apart_sym, clear_within, clear_above, below_up}
 use Rattle.history_lanes.proofs.Blocks.{full-kept, link_to_kept, links-kept}
+use Rattle.std.specs.Prelude.{Some, None}
 
 -- a lane between the taking of a block and its first byte: the newest block may be empty
 record Loose (m : List ℕ) (a : Arena) (h : Header) (ks : List ℕ) : Type 0 where
@@ -336,14 +335,14 @@ take_step m a h (x ∷ ks) v a' L z S =
     }
 
 spot-at : (m : List ℕ) (a : Arena) (h : Header) (ks : List ℕ) (v : ℕ) (a' : Arena) → Loose m a h ks
-    → room_for a (length m) (next_wide h) ≡ At v a'
+    → room_for a (length m) (next_wide h) ≡ room_at v a'
     → Spot m a ks v a'
 spot-at m a h ks v a' L e =
     let w : next_wide h ≡ wide_on ks =
     ap (λ (b : ℕ). block_size b + link_size) (let p : h.number + 1 ≡ length ks + 3 = omega (arith, L.number) in
     p) in
     let f = ap (room_for a (length m)) (sym w) ∙ e in
-    let R : Room a (length m) (wide_on ks) v a' = room_facts a (length m) (wide_on ks) v a' (omega arith) L.stands f in
+    let R : Placed a (length m) (wide_on ks) v a' = room_facts a (length m) (wide_on ks) v a' (omega arith) L.stands f in
     record {
       above = R.above;
       end = R.end;
@@ -371,7 +370,7 @@ abbrev StepOf : Writing → List ℕ → List ℕ → Writing → List ℕ → T
 StepOf w ks bs w' ks' = Step w.memory w.arena w.header ks bs w'.memory w'.arena w'.header ks'
 
 take-with : (w : Writing) (ks : List ℕ) (v : ℕ) (a' : Arena) → LooseOf w ks → w.header.remaining ≡ 0
-    → room_for w.arena (length w.memory) (next_wide w.header) ≡ At v a'
+    → room_for w.arena (length w.memory) (next_wide w.header) ≡ room_at v a'
     → LooseOf (with_block v a' w) (v ∷ ks) × StepOf w ks [] (with_block v a' w) (v ∷ ks)
     × (0 < (header_with v w.header).remaining)
 take-with w ks v a' L z e =
@@ -399,15 +398,14 @@ ready-open : (w : Writing) (ks : List ℕ) → LooseOf w ks → (v : Writing) �
 unfolding ready
 ready-open w ks L v e = go (eqb w.header.remaining 0) refl e
   where
-    taken : (r : Allocated) → room_for w.arena (length w.memory) (next_wide w.header) ≡ r
+    taken : (r : MaybeRoom) → room_for w.arena (length w.memory) (next_wide w.header) ≡ r
         → w.header.remaining ≡ 0
         → on_room r w ≡ some v → Open w ks v
-    taken (At at a') p z e =
-        let T = take-with w ks at a' L z p in
-        subst (λ (v : Writing). Open w ks v) (same_some (with_block at a' w) v e)
-        (record { newest = at; others = ks; lane = T.0; step = T.1; waits = T.2 })
-    taken NoRoom p z e = let c : ◌≡◌ {A = ℕ} 0 1 = cc in absurd (omega arith)
-    taken (Refused n) p z e = let c : ◌≡◌ {A = ℕ} 0 1 = cc in absurd (omega arith)
+    taken (Some r) p z e =
+        let T = take-with w ks r.at r.after L z p in
+        subst (λ (v : Writing). Open w ks v) (same_some (with_block r.at r.after w) v e)
+        (record { newest = r.at; others = ks; lane = T.0; step = T.1; waits = T.2 })
+    taken None p z e = let c : ◌≡◌ {A = ℕ} 0 1 = cc in absurd (omega arith)
 
     stays : (ks : List ℕ) → LooseOf w ks → (w.header.remaining ≡ 0 → ⊥) → Open w ks w
     stays [] L z = absurd (z L.tip.2)

@@ -15,22 +15,20 @@ use Rattle.numbers.proofs.Tests.{cond-false}
 use Rattle.spans.specs.Span.{overwrite}
 use Rattle.spans.proofs.Laws.{length-overwrite}
 use Rattle.memory_arena.specs.declared.Arena.{Arena}
-use Rattle.memory_arena.specs.declared.Allocated.{Allocated}
-use Rattle.memory_arena.specs.declared.Allocated.TheVariants.{At, NoRoom, Refused}
-use Rattle.memory_arena.specs.Pages.{room_for}
+use Rattle.memory_arena.specs.Pages.{MaybeRoom, room_for}
 use Rattle.expull_header.specs.declared.Header.{Header}
 use Rattle.expull_header.specs.Header.{block_size}
 use Rattle.expull_header.proofs.Laws.{size_pos}
 use Rattle.expull_append.specs.Append.{Writing, writing, next_wide, linked, header_with, with_block, on_room, take_block}
 use Rattle.expull_append.specs.Append.{ready, filled, and_then, appended, on_room_dry, planned, plan_of}
 use Rattle.history_lanes.specs.Lane.{arena_of}
+use Rattle.std.specs.Prelude.{Some, None}
 
 -- ---- as many turns as there are bytes are enough
 
-dry_same : (r : Allocated) (f g : Arena → Option Arena) → ((a : Arena) → f a ≡ g a) → on_room_dry r f ≡ on_room_dry r g
-dry_same (At at a) f g e = e a
-dry_same NoRoom f g e = refl
-dry_same (Refused n) f g e = refl
+dry_same : (r : MaybeRoom) (f g : Arena → Option Arena) → ((a : Arena) → f a ≡ g a) → on_room_dry r f ≡ on_room_dry r g
+dry_same (Some r) f g e = e r.after
+dry_same None f g e = refl
 
 turns_same : (t t' len : ℕ) (a : Arena) (b n : ℕ) → n ≤ t → n ≤ t' → planned t len a b n ≡ planned t' len a b n
 unfolding planned
@@ -86,21 +84,20 @@ plan_run (b ∷ bs) w = go (eqb w.header.remaining 0) refl (plan_run bs)
         ≡ arena_of (and_then o (λ v. appended bs (filled (b ∷ []) v)))
 
     taken : ((v : Writing) → plan_of (length v.memory) v.arena v.header n ≡ arena_of (appended bs v))
-        → (r : Allocated)
+        → (r : MaybeRoom)
         → on_room_dry r (λ a'. planned n (length w.memory) a' (w.header.number + 1)
         (suc n - block_size (w.header.number + 1)))
         ≡ arena_of (and_then (on_room r w) (λ v. appended bs (filled (b ∷ []) v)))
-    taken on (At v a') =
+    taken on (Some r) =
         let s : ℕ = block_size (w.header.number + 1) in
         let e : n - (s - 1) ≡ suc n - s = omega (arith, size_pos (w.header.number + 1)) in
-        let l : length (overwrite v (b ∷ []) (linked v w.header w.memory)) ≡ length w.memory =
-        length-overwrite v (b ∷ []) (linked v w.header w.memory) ∙ length-linked v w.header w.memory in
-        turns_same n (suc n - s) (length w.memory) a' (w.header.number + 1) (suc n - s)
+        let l : length (overwrite r.at (b ∷ []) (linked r.at w.header w.memory)) ≡ length w.memory =
+        length-overwrite r.at (b ∷ []) (linked r.at w.header w.memory) ∙ length-linked r.at w.header w.memory in
+        turns_same n (suc n - s) (length w.memory) r.after (w.header.number + 1) (suc n - s)
         (omega (arith, size_pos (w.header.number + 1))) (omega arith)
-        ∙ (λ i. planned (sym e i) (sym l i) a' (w.header.number + 1) (sym e i))
-        ∙ on (filled (b ∷ []) (with_block v a' w))
-    taken on NoRoom = refl
-    taken on (Refused k) = refl
+        ∙ (λ i. planned (sym e i) (sym l i) r.after (w.header.number + 1) (sym e i))
+        ∙ on (filled (b ∷ []) (with_block r.at r.after w))
+    taken on None = refl
 
     go : (t : Bool) → eqb w.header.remaining 0 ≡ t
         → ((v : Writing) → plan_of (length v.memory) v.arena v.header n ≡ arena_of (appended bs v))

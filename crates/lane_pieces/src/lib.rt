@@ -84,7 +84,7 @@ fn are_good_on(lists: &[u8], arena: Arena, first: u32, end: u32, place: u32) -> 
     let mut i = first;
     while i < end {
         let size = expull_header::get_block_size(i + 3) as usize;
-        if !memory_arena::is_good_span(arena, b, size + limits::LINK) {
+        if !arena.is_good_span(b, size + limits::LINK) {
             return false;
         }
         b = spans::get_u32(lists, b as usize + size);

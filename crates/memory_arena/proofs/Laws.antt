@@ -3,25 +3,21 @@
 use Prim.Native.Nat.{ℕ, suc, ◌+◌, ◌-◌, ◌*◌, ◌/◌, ◌%◌, ◌^◌, ◌≤◌, ◌<◌, min}
 use mathlib.Core.Path.{◌≡◌, refl, sym, ap, subst}
 use mathlib.Core.Bool.{Bool, true, false, cond, ◌&&◌}
-use mathlib.Core.List.{List}
-use native.Mathlib.Nat.{div-add-mod', div-le_self, mul-le-mul_right, suc-mul}
+use native.Mathlib.Nat.{add-mul, div-add-mod', div-le_self, mul-le-mul_right, suc-mul}
 use native.Mathlib.Omega.{arith}
 use lib.Arith.{digits_div, digits_mod}
 use lib.Bits.{bit_and, and_mask}
 use lib.Count.{count_trailing_zeros}
 use lib.Dec.{leb, ltb, eqb, lit<}
-use lib.ListN.{length}
 use borrow.Author.Tests.{le-leb, lt-leb, lt-ltb, leb-true, ltb-true, ltb-false, eqb-true, eqb-false, eq-eqb, ne_eqb}
-use Rattle.limits.specs.Limits.{page_taken, arena_limit_for, arena_limit, each_size, page_least, null_outside, limit_within}
-use Rattle.limits.specs.Refusals.{Asked, permitted}
-use Rattle.spans.specs.Span.{read_span, overwrite}
+use Rattle.limits.specs.Limits.{page_taken, arena_limit_for, arena_limit, each_size, page_least, page_most, null_outside, limit_within}
 use Rattle.numbers.proofs.Tests.{both, both_true, left_false, right_false, same_test}
 use Rattle.memory_arena.specs.Address.{address_of, page_of, place_of}
 use Rattle.memory_arena.specs.declared.Arena.{Arena}
-use Rattle.memory_arena.specs.declared.Allocated.TheVariants.{At, NoRoom}
-use Rattle.memory_arena.specs.declared.Touched.TheVariants.{Done, Declined}
-use Rattle.memory_arena.specs.Pages.{capacity_of, lendable, standing, used_on, good_span, room_for}
-use Rattle.memory_arena.specs.Calls.{sensible, reachable, said_allocated, out, read_of, write_of}
+use Rattle.memory_arena.specs.declared.Room.{Room}
+use Rattle.std.specs.Prelude.{None}
+use Rattle.memory_arena.specs.Pages.{capacity_of, lendable, standing, used_on, good_span, room_at, room_for}
+use Rattle.memory_arena.specs.Calls.{sensible, reachable}
 
 -- ---- addresses: the split and the sum are inverse
 
@@ -48,12 +44,9 @@ shift_page s at e = ap (λ (k : ℕ). at / k) (shift_size s e).0
 pub mask_place : (s at : ℕ) → page_taken s ≡ true → bit_and at (s - 1) ≡ place_of s at
 mask_place s at e = subst (λ (k : ℕ). bit_and at (k - 1) ≡ at % k) (shift_size s e).0 (and_mask at (count_trailing_zeros 64 s))
 
--- neither is above the address
+-- the page is at most the address
 pub page_small : (s at : ℕ) → page_of s at ≤ at
 page_small s at = div-le_self at s
-
-pub place-small : (s at : ℕ) → place_of s at ≤ at
-place-small s at = omega (arith, split s at)
 
 -- page p ends where a later page q starts, or before
 pub page_before : (s p q : ℕ) → p < q → p * s + s ≤ q * s
@@ -173,7 +166,7 @@ good-below a at n z p q u =
 -- ---- room
 
 -- what an allocation gives: a span from the used end on, on one page, that the state after it takes in
-pub record Room (a : Arena) (len n at : ℕ) (b : Arena) : Type 0 where
+pub record Placed (a : Arena) (len n at : ℕ) (b : Arena) : Type 0 where
   pub above : a.page * a.size + a.used ≤ at
   pub end : b.page * b.size + b.used ≡ at + n
   pub page_on : at ≡ b.page * b.size + (b.used - n)
@@ -187,40 +180,41 @@ room_cases : (P : ℕ → Arena → Type 0) (a : Arena) (len n at : ℕ) (b : Ar
     → P (address_of a.size a.page a.used) (record { page = a.page; used = a.used + n; size = a.size }))
     → (n ≤ capacity_of a.size len (a.page + 1)
     → P (address_of a.size (a.page + 1) 0) (record { page = a.page + 1; used = n; size = a.size }))
-    → room_for a len n ≡ At at b → P at b
+    → room_for a len n ≡ room_at at b → P at b
 unfolding room_for
 room_cases P a len n at b here next f =
     go (leb (a.used + n) (capacity_of a.size len a.page)) refl
     (leb n (capacity_of a.size len (a.page + 1))) refl f
   where
-    same : (x : ℕ) (c : Arena) → P x c → At x c ≡ At at b → P at b
+    same : (x : ℕ) (c : Arena) → P x c → room_at x c ≡ room_at at b → P at b
     same x c p e =
-        let u : x ≡ at = cc in
-        let v : c ≡ b = cc in
+        let r : ◌≡◌ {A = Room} (record { at = x; after = c }) (record { at = at; after = b }) = cc in
+        let u : x ≡ at = ap (λ (r : Room). r.at) r in
+        let v : c ≡ b = ap (λ (r : Room). r.after) r in
         subst (λ (y : ℕ). P y b) u (subst (λ (d : Arena). P x d) v p)
 
     go : (t : Bool) → leb (a.used + n) (capacity_of a.size len a.page) ≡ t
         → (u : Bool) → leb n (capacity_of a.size len (a.page + 1)) ≡ u
-        → cond t (At (address_of a.size a.page a.used)
+        → cond t (room_at (address_of a.size a.page a.used)
         (record { page = a.page; used = a.used + n; size = a.size }))
-        (cond u (At (address_of a.size (a.page + 1) 0) (record { page = a.page + 1; used = n; size = a.size }))
-        NoRoom) ≡ At at b
+        (cond u (room_at (address_of a.size (a.page + 1) 0) (record { page = a.page + 1; used = n; size = a.size }))
+        None) ≡ room_at at b
         → P at b
     go true p u q f = same _ _ (here (leb-true _ _ p)) f
     go false p true q f = same _ _ (next (leb-true _ _ q)) f
     go false p false q f = let c : ◌≡◌ {A = ℕ} 0 1 = cc in absurd (omega arith)
 
 -- a page keeps its size
-pub room_size : (a : Arena) (len n at : ℕ) (b : Arena) → room_for a len n ≡ At at b → b.size ≡ a.size
+pub room_size : (a : Arena) (len n at : ℕ) (b : Arena) → room_for a len n ≡ room_at at b → b.size ≡ a.size
 room_size a len n at b f = room_cases (λ x c. c.size ≡ a.size) a len n at b (λ h. refl) (λ h. refl) f
 
-pub room_facts : (a : Arena) (len n at : ℕ) (b : Arena) → 0 < n → standing a len ≡ true → room_for a len n ≡ At at b
-    → Room a len n at b
+pub room_facts : (a : Arena) (len n at : ℕ) (b : Arena) → 0 < n → standing a len ≡ true → room_for a len n ≡ room_at at b
+    → Placed a len n at b
 room_facts a len n at b z e f =
     let h = standing_facts a len e in
     let k : a.page * a.size + a.size ≤ (a.page + 1) * a.size =
     page_before a.size a.page (a.page + 1) (omega arith) in
-    room_cases (λ x c. Room a len n x c) a len n at b
+    room_cases (λ x c. Placed a len n x c) a len n at b
     (λ (c : a.used + n ≤ min a.size (len - a.page * a.size)). record {
       above = omega arith;
       end = omega arith;
@@ -239,11 +233,11 @@ room_facts a len n at b z e f =
     }) f
 
 -- the span given out lies in the memory, and the state after it is one of that memory
-pub room_in : (a : Arena) (len n at : ℕ) (b : Arena) → 0 < n → standing a len ≡ true → room_for a len n ≡ At at b
+pub room_in : (a : Arena) (len n at : ℕ) (b : Arena) → 0 < n → standing a len ≡ true → room_for a len n ≡ room_at at b
     → at + n ≤ len
 room_in a len n at b z e f = let r = room_facts a len n at b z e f in omega (arith, r.end, r.after.in_memory)
 
-pub room-standing : (a : Arena) (len n at : ℕ) (b : Arena) → 0 < n → standing a len ≡ true → room_for a len n ≡ At at b
+pub room-standing : (a : Arena) (len n at : ℕ) (b : Arena) → 0 < n → standing a len ≡ true → room_for a len n ≡ room_at at b
     → standing b len ≡ true
 room-standing a len n at b z e f = standing_made b len (room_facts a len n at b z e f).after
 
@@ -279,7 +273,7 @@ pub sensible_wide : (a : Arena) (len : ℕ) → sensible a len ≡ true → 6553
 sensible_wide a len e = page_least a.size (sensible_facts a len e).sized
 
 -- the state after an allocation passes the check too
-pub room-sensible : (a : Arena) (len n at : ℕ) (b : Arena) → 0 < n → sensible a len ≡ true → room_for a len n ≡ At at b
+pub room-sensible : (a : Arena) (len n at : ℕ) (b : Arena) → 0 < n → sensible a len ≡ true → room_for a len n ≡ room_at at b
     → sensible b len ≡ true
 room-sensible a len n at b z e f =
     let h = sensible_facts a len e in
@@ -314,12 +308,34 @@ sensible_past a len h = go (sensible a len) refl
     go false e = refl
     go true e = absurd (omega (arith, sensible_page a len e))
 
+-- what the state check bounds: every sum on the way to room fits
+pub record Bounded (a : Arena) (len : ℕ) : Type 0 where
+  pub stands : Standing a len
+  pub short : len ≤ arena_limit
+  pub size_most : a.size ≤ 1048576
+  pub page_most : a.page < 65535
+  pub next_page : (a.page + 1) * a.size ≤ arena_limit + 1048576
+
+pub sensible_bounds : (a : Arena) (len : ℕ) → sensible a len ≡ true → Bounded a len
+sensible_bounds a len e =
+    let h = sensible_facts a len e in
+    let s = standing_facts a len h.stands in
+    let l = sensible_short a len e in
+    let m : a.size ≤ 1048576 = page_most a.size h.sized in
+    record {
+      stands = s;
+      short = l;
+      size_most = m;
+      page_most = sensible_page a len e;
+      next_page = omega (arith, s.exists, add-mul a.page 1 a.size);
+    }
+
 -- the check as code makes it
 pub sensible_code : (a : Arena) (len : ℕ) → page_taken a.size ≡ true
-    → (leb len (4294967296 - a.size)
-    && (ltb (a.page * a.size) len && leb a.used (capacity_of a.size len a.page))) ≡ sensible a len
+    → sensible a len
+    ≡ (leb len (4294967296 - a.size) && (ltb (a.page * a.size) len && leb a.used (capacity_of a.size len a.page)))
 unfolding standing
-sensible_code a len z = same_test _ _ to from
+sensible_code a len z = same_test _ _ from to
   where
     limit : arena_limit_for a.size ≡ 4294967296 - a.size
     limit = omega (arith, null_outside a.size z)
@@ -352,27 +368,19 @@ good_over a at n h =
     right_false (leb (page_of a.size at) a.page) _
     (lt-leb (place_of a.size at + n) (used_on a (page_of a.size at)) (omega arith))
 
-pub good-within : (a : Arena) (at n used : ℕ) → used ≡ used_on a (page_of a.size at) → page_of a.size at ≤ a.page
-    → place_of a.size at ≤ used
-    → leb n (used - place_of a.size at) ≡ good_span a at n
+pub good-within : (a : Arena) (at n : ℕ) → page_of a.size at ≤ a.page
+    → place_of a.size at ≤ used_on a (page_of a.size at)
+    → good_span a at n ≡ leb n (used_on a (page_of a.size at) - place_of a.size at)
 unfolding good_span
-good-within a at n used e h k =
+good-within a at n h k =
     rw (le-leb _ _ h)
     (same_test _ _
+    (λ t. le-leb n (used_on a (page_of a.size at) - place_of a.size at)
+    (let w : place_of a.size at + n ≤ used_on a (page_of a.size at) = leb-true _ _ t in omega arith))
     (λ t. le-leb (place_of a.size at + n) (used_on a (page_of a.size at))
-    (let w : n ≤ used - place_of a.size at = leb-true _ _ t in omega arith))
-    (λ t. le-leb n (used - place_of a.size at)
-    (let w : place_of a.size at + n ≤ used_on a (page_of a.size at) = leb-true _ _ t in omega arith)))
+    (let w : n ≤ used_on a (page_of a.size at) - place_of a.size at = leb-true _ _ t in omega arith)))
 
 -- ---- the calls, case by case
-
-pub reach_good : (a : Arena) (len at n : ℕ) → sensible a len ≡ true → reachable a len at n ≡ good_span a at n
-unfolding reachable
-reach_good a len at n e = rw e
-
-pub reach_none : (a : Arena) (len at n : ℕ) → sensible a len ≡ false → reachable a len at n ≡ false
-unfolding reachable
-reach_none a len at n e = rw e
 
 -- a span that may be touched lies in the memory
 pub reach_in : (a : Arena) (len at n : ℕ) → reachable a len at n ≡ true → at + n ≤ len
@@ -380,45 +388,3 @@ unfolding reachable
 reach_in a len at n e =
     let p = both (sensible a len) (good_span a at n) e in
     good-in a at n len (sensible_facts a len p.0).stands p.1
-
--- room is no refusal
-pub room-said : (a : Arena) (len n : ℕ) (q : Asked) → permitted q (said_allocated (room_for a len n)) ≡ true
-unfolding room_for
-room-said a len n q =
-    go (leb (a.used + n) (capacity_of a.size len a.page)) (leb n (capacity_of a.size len (a.page + 1)))
-  where
-    go : (t u : Bool)
-        → permitted q
-        (said_allocated
-        (cond t (At (address_of a.size a.page a.used)
-        (record { page = a.page; used = a.used + n; size = a.size }))
-        (cond u (At (address_of a.size (a.page + 1) 0) (record { page = a.page + 1; used = n; size = a.size }))
-        NoRoom)))
-        ≡ true
-    go true u = refl
-    go false true = refl
-    go false false = refl
-
-pub read_done : (a : Arena) (pages : List ℕ) (at : ℕ) (output : List ℕ)
-    → reachable a (length pages) at (length output) ≡ true
-    → read_of a pages at output ≡ out Done (read_span at (length output) pages)
-unfolding read_of
-read_done a pages at output e = rw e
-
-pub read-declined : (a : Arena) (pages : List ℕ) (at : ℕ) (output : List ℕ)
-    → reachable a (length pages) at (length output) ≡ false
-    → read_of a pages at output ≡ out (Declined 10) output
-unfolding read_of
-read-declined a pages at output e = rw e
-
-pub write_done : (a : Arena) (pages : List ℕ) (at : ℕ) (bytes : List ℕ)
-    → reachable a (length pages) at (length bytes) ≡ true
-    → write_of a pages at bytes ≡ out Done (overwrite at bytes pages)
-unfolding write_of
-write_done a pages at bytes e = rw e
-
-pub write_declined : (a : Arena) (pages : List ℕ) (at : ℕ) (bytes : List ℕ)
-    → reachable a (length pages) at (length bytes) ≡ false
-    → write_of a pages at bytes ≡ out (Declined 10) pages
-unfolding write_of
-write_declined a pages at bytes e = rw e

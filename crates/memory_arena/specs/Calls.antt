@@ -2,16 +2,15 @@
 -- document 01's numbers: 9 an allocation of 0 or over a page's bytes; 10 a span that isn't good, a lent length that
 -- creation refuses, or a state whose page or used count exceeds it. The lowest comes first, but for one: "a senseless
 -- size in a bare arena state is 10, whatever is asked" (document 02, Nine).
-use Rattle.std.specs.Prelude.{ℕ, ◌≡◌, refl, Bool, cond, ◌&&◌, ◌||◌, List, [], ◌∷◌, ltb, eqb, length, replicate}
+use Rattle.std.specs.Prelude.{ℕ, ◌≡◌, refl, Bool, cond, ◌&&◌, ◌||◌, List, [], ◌∷◌, ltb, eqb, length, replicate, ⊤}
+use Rattle.std.specs.Prelude.{Some, None, Result, Ok, Err}
 use Rattle.limits.specs.Limits.{page_taken, arena_limit_for}
-use Rattle.limits.specs.Refusals.{Said, answered, refused, done, an_address, no_room, one-outcome}
+use Rattle.limits.specs.Refusals.{Said, answered, refused, done, an_address, no_room, one-outcome, number_of}
+use Rattle.limits.specs.declared.Refusal.{Refusal}
+use Rattle.limits.specs.declared.Refusal.TheVariants.{WrongLength, OutOfArena}
 use Rattle.spans.specs.Span.{read_span, overwrite}
 use Rattle.memory_arena.specs.declared.Arena.{Arena}
-use Rattle.memory_arena.specs.declared.Allocated.{Allocated}
-use Rattle.memory_arena.specs.declared.Allocated.TheVariants.{At, NoRoom, Refused}
-use Rattle.memory_arena.specs.declared.Touched.{Touched}
-use Rattle.memory_arena.specs.declared.Touched.TheVariants.{Done, Declined}
-use Rattle.memory_arena.specs.Pages.{lendable, standing, good_span, room_for}
+use Rattle.memory_arena.specs.Pages.{lendable, standing, good_span, MaybeRoom, room_for}
 
 -- RULES G1, B4, B6. A page's bytes and the lent length are such as creation takes, and the state is one of an arena of
 -- that length.
@@ -22,26 +21,26 @@ sensible a len = page_taken a.size && (lendable (arena_limit_for a.size) len && 
 -- ---- this paper's number and values of each answer
 
 -- RULES X7.
-abbrev pub said_allocated : Allocated → Said
-said_allocated (At address a) = answered an_address (address ∷ a.page ∷ a.used ∷ a.size ∷ [])
-said_allocated NoRoom = answered no_room []
-said_allocated (Refused n) = refused n []
+abbrev pub said_allocated : Result MaybeRoom Refusal → Said
+said_allocated (Ok (Some r)) = answered an_address (r.at ∷ r.after.page ∷ r.after.used ∷ r.after.size ∷ [])
+said_allocated (Ok None) = answered no_room []
+said_allocated (Err e) = refused (number_of e) []
 
 -- RULES X7.
-abbrev pub said_touched : Touched → Said
-said_touched Done = answered done []
-said_touched (Declined n) = refused n []
+abbrev pub said_touched : Result ⊤ Refusal → Said
+said_touched (Ok u) = answered done []
+said_touched (Err e) = refused (number_of e) []
 
 -- ---- the calls
 
 -- RULES G2. An address and the state after it, no room, 9 or 10; a size that isn't taken is 10 before all else.
-unfoldable pub allocate_of : Arena → ℕ → ℕ → Allocated
+unfoldable pub allocate_of : Arena → ℕ → ℕ → Result MaybeRoom Refusal
 unfolding sensible room_for
 allocate_of a len n =
     cond (page_taken a.size)
-    (cond (eqb n 0 || ltb a.size n) (Refused 9)
-    (cond (sensible a len) (room_for a len n) (Refused 10)))
-    (Refused 10)
+    (cond (eqb n 0 || ltb a.size n) (Err WrongLength)
+    (cond (sensible a len) (Ok (room_for a len n)) (Err OutOfArena)))
+    (Err OutOfArena)
 
 -- RULES G3. The span may be touched.
 unfoldable pub reachable : Arena → ℕ → ℕ → ℕ → Bool
@@ -50,25 +49,25 @@ reachable a len at n = sensible a len && good_span a at n
 
 -- RULES G4, G5. The answer, and the lent memory that the call may write, as it leaves it.
 pub record Out : Type 0 where
-  pub answer : Touched
+  pub answer : Result ⊤ Refusal
   pub memory : List ℕ
 
 -- RULES G4, G5. Both put together.
-abbrev pub out : Touched → List ℕ → Out
+abbrev pub out : Result ⊤ Refusal → List ℕ → Out
 out r m = record { answer = r; memory = m }
 
 -- RULES G4. A read of as many bytes as the output has.
 unfoldable pub read_of : Arena → List ℕ → ℕ → List ℕ → Out
 unfolding reachable read_span
 read_of a pages at output =
-    cond (reachable a (length pages) at (length output)) (out Done (read_span at (length output) pages))
-    (out (Declined 10) output)
+    cond (reachable a (length pages) at (length output)) (out (Ok tt) (read_span at (length output) pages))
+    (out (Err OutOfArena) output)
 
 -- RULES G5. A write.
 unfoldable pub write_of : Arena → List ℕ → ℕ → List ℕ → Out
 unfolding reachable overwrite
 write_of a pages at bytes =
-    cond (reachable a (length pages) at (length bytes)) (out Done (overwrite at bytes pages)) (out (Declined 10) pages)
+    cond (reachable a (length pages) at (length bytes)) (out (Ok tt) (overwrite at bytes pages)) (out (Err OutOfArena) pages)
 
 -- RULES G6. A good span shown as a part of the lent pages; the empty part otherwise.
 unfoldable pub slice_of : Arena → List ℕ → ℕ → ℕ → List ℕ
@@ -102,7 +101,7 @@ said_cases = (refl, refl, refl, refl, refl, refl, refl, refl, refl, refl, refl, 
 -- ---- the promises permit one outcome each
 
 -- RULES X8.
-pub allocate_settled : (a : Arena) (len n : ℕ) {x y : Allocated}
+pub allocate_settled : (a : Arena) (len n : ℕ) {x y : Result MaybeRoom Refusal}
     → x ≡ allocate_of a len n → y ≡ allocate_of a len n → x ≡ y
 allocate_settled a len n p q = one-outcome p q
 

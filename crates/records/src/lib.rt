@@ -27,11 +27,11 @@ pub fn is_good_record(keys: &[u8], arena: Arena, at: u32) -> bool
     requires { sensible arena (length keys.now) ≡ true }
     ensures { result ≡ good_record arena keys.now at }
 {
-    if !memory_arena::is_good_span(arena, at, 2) {
+    if !arena.is_good_span(at, 2) {
         return false;
     }
     let n = key_length(keys, at);
-    memory_arena::is_good_span(arena, at, n + limits::RECORD_EXTRA)
+    arena.is_good_span(at, n + limits::RECORD_EXTRA)
 }
 
 // The key length of a good record.

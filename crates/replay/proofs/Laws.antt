@@ -10,8 +10,7 @@ use Rattle.std.specs.Prelude.{Some, None}
 use Rattle.entries.specs.declared.Entry.{Entry as Places}
 use Rattle.entries.specs.Form.{entry_at, Inside, Met, entries_from}
 use Rattle.entries.proofs.Laws.{entries_none, entries-whole}
-use Rattle.store_create.specs.declared.Created.{Created}
-use Rattle.store_create.specs.declared.Created.TheVariants.{Made, Barred}
+use Rattle.store_create.specs.Create.{Created}
 use Rattle.store_create.specs.Create.{Out as CreateOut, out as Create·out, creatable}
 use Rattle.store_look.specs.Look.{Lent, lent}
 use Rattle.store_create.proofs.Creation.{create_made, create_barred}
@@ -22,6 +21,9 @@ use Rattle.history.proofs.Born.{born_size}
 use Rattle.history.proofs.Demand.{reads_back}
 use Rattle.replay.specs.Script.{world, calls_by, calls_of, played, Out}
 use Rattle.replay.specs.Script.{out, left_by, played_on, created_on, replay_of, Replayed}
+use Rattle.std.specs.Prelude.{Ok, Err}
+use Rattle.limits.specs.declared.Refusal.{Refusal}
+use Rattle.limits.specs.declared.Refusal.TheVariants.{NotCreatable}
 
 -- what is left of a script from a place on, at most n entries
 abbrev pub calls_from : ℕ → List ℕ → ℕ → List Call
@@ -63,12 +65,8 @@ module _ {s : List ℕ} {w v : World} {at : ℕ} (P : Playing s w v at) where
 -- ---- creation refused, and creation accepted
 
 abbrev is_made : Created → Bool
-is_made (Made st) = true
-is_made (Barred n) = false
-
-abbrev number_in : Created → ℕ
-number_in (Made st) = 0
-number_in (Barred n) = n
+is_made (Ok st) = true
+is_made (Err e) = false
 
 module _ (capacity seed size : ℕ) (m : Lent) (s : List ℕ) where
   -- both clauses of the contract
@@ -79,31 +77,32 @@ module _ (capacity seed size : ℕ) (m : Lent) (s : List ℕ) where
   on_created o = played_on o.answer o.table m s
 
   -- refused: by 1, and nothing has changed
-  barred : (n : ℕ) (t : List ℕ) → Create·out (Barred n) t ≡ created_on capacity seed size m → (b : Bool)
+  barred : (r : Refusal) (t : List ℕ) → Create·out (Err r) t ≡ created_on capacity seed size m → (b : Bool)
       → creatable capacity size (length m.table) (length m.keys) (length m.lists) ≡ b
-      → Replayed capacity seed size m s (Barred n) (lent t m.keys m.lists)
-  barred n t p true e =
+      → Replayed capacity seed size m s (Err r) (lent t m.keys m.lists)
+  barred r t p true e =
       let q = p ∙ create_made capacity seed size m.table (length m.keys) (length m.lists) e in
       absurd (false≢true (ap (λ (o : CreateOut). is_made o.answer) q))
-  barred n t p false e =
+  barred r t p false e =
       let q = p ∙ create_barred capacity seed size m.table (length m.keys) (length m.lists) e in
-      let same : t ≡ m.table = ap (λ (o : CreateOut). o.table) q in (
-        sym p ∙ ap (Create·out (Barred n)) same,
-        ap (λ (o : CreateOut). number_in o.answer) q,
+      let same : t ≡ m.table = ap (λ (o : CreateOut). o.table) q in
+      let answer : ◌≡◌ {A = Created} (Err r) (Err NotCreatable) = ap (λ (o : CreateOut). o.answer) q in (
+        sym p ∙ ap (Create·out (Err r)) same,
+        cc,
         ap (λ (t : List ℕ). lent t m.keys m.lists) same,
       )
 
-  pub replay_barred : (n : ℕ) (t : List ℕ) → Create·out (Barred n) t ≡ created_on capacity seed size m
-      → Meets (Barred n) (lent t m.keys m.lists)
-  replay_barred n t p = (
+  pub replay_barred : (r : Refusal) (t : List ℕ) → Create·out (Err r) t ≡ created_on capacity seed size m
+      → Meets (Err r) (lent t m.keys m.lists)
+  replay_barred r t p = (
     ap on_created p,
-    barred n t p (creatable capacity size (length m.table) (length m.keys) (length m.lists)) refl,
+    barred r t p (creatable capacity size (length m.table) (length m.keys) (length m.lists)) refl,
   )
 
   -- accepted: what the script's appends leave, so demand 3
   pub replay_made : (first : State) (t : List ℕ) (st : State) (m' : Lent)
-      → Create·out (Made first) t ≡ created_on capacity seed size m
-      → world st m' ≡ play (calls_of s) (world first (lent t m.keys m.lists)) → Meets (Made st) m'
+      → Create·out (Ok first) t ≡ created_on capacity seed size m
+      → world st m' ≡ play (calls_of s) (world first (lent t m.keys m.lists)) → Meets (Ok st) m'
   replay_made first t st m' p q =
       let w : World = world first (lent t m.keys m.lists) in
       let born : Born capacity seed size m.table m.keys m.lists w =
@@ -124,8 +123,8 @@ module _ (capacity seed size : ℕ) (m : Lent) (s : List ℕ) where
   -- what meets the second clause meets the first
   replayed_is : (r : Created) (m' : Lent) → Replayed capacity seed size m s r m'
       → out r m' ≡ replay_of capacity seed size m s
-  replayed_is (Barred n) m' P = ap (out (Barred n)) P.2 ∙ sym (ap on_created P.0)
-  replayed_is (Made st) m' P =
+  replayed_is (Err e) m' P = ap (out (Err e)) P.2 ∙ sym (ap on_created P.0)
+  replayed_is (Ok st) m' P =
       let first : World = world P.0.state (lent P.0.memory.table m.keys m.lists) in
       let lent_is : P.0 ≡ first =
       λ i. world P.0.state (lent P.0.memory.table (P.1.keys_lent i) (P.1.lists_lent i)) in

@@ -8,10 +8,11 @@ use Rattle.store_state.specs.declared.State.{State}
 use Rattle.store_create.specs.Create.{Out as CreateOut, out as Create·out, create_of}
 use Rattle.store_look.specs.Look.{Lent, lent}
 use Rattle.limits.specs.Limits.{name_limit_for}
-use Rattle.store_create.specs.declared.Created.{Created}
-use Rattle.store_create.specs.declared.Created.TheVariants.{Made, Barred}
+use Rattle.store_create.specs.Create.{Created}
 use Rattle.history.specs.History.{World, Call, appends, after, play, Born, joined}
 use Rattle.history.specs.Promises.{ReadsAs}
+use Rattle.std.specs.Prelude.{Ok, Err}
+use Rattle.limits.specs.declared.Refusal.TheVariants.{NotCreatable}
 
 -- RULES Y11.
 abbrev pub world : State → Lent → World
@@ -44,13 +45,13 @@ out r m = record { answer = r; memory = m }
 
 -- RULES Y11.
 abbrev pub left_by : World → Out
-left_by w = out (Made w.state) w.memory
+left_by w = out (Ok w.state) w.memory
 
 -- RULES Y11. Creation's outcome, with the key pages and list pages that were lent; if it is accepted, the script's
 -- appends played
 abbrev pub played_on : Created → List ℕ → Lent → List ℕ → Out
-played_on (Made st) table m s = left_by (play (calls_of s) (world st (lent table m.keys m.lists)))
-played_on (Barred n) table m s = out (Barred n) (lent table m.keys m.lists)
+played_on (Ok st) table m s = left_by (play (calls_of s) (world st (lent table m.keys m.lists)))
+played_on (Err e) table m s = out (Err e) (lent table m.keys m.lists)
 
 -- RULES Y11.
 abbrev pub created_on : ℕ → ℕ → ℕ → Lent → CreateOut
@@ -65,9 +66,9 @@ replay_of capacity seed size m s =
 -- nothing has changed. Accepted: the store is what the script's appends leave of a fresh one, and (demand 3) each name
 -- reads as its accepted appends joined in order, or is absent.
 abbrev pub Replayed : ℕ → ℕ → ℕ → Lent → List ℕ → Created → Lent → Type 0
-Replayed capacity seed size m s (Barred n) m' =
-    (created_on capacity seed size m ≡ Create·out (Barred n) m.table) × (n ≡ 1) × (m' ≡ m)
-Replayed capacity seed size m s (Made st) m' =
+Replayed capacity seed size m s (Err e) m' =
+    (created_on capacity seed size m ≡ Create·out (Err e) m.table) × (e ≡ NotCreatable) × (m' ≡ m)
+Replayed capacity seed size m s (Ok st) m' =
     (fresh : World) × Born capacity seed size m.table m.keys m.lists fresh
     × (world st m' ≡ play (calls_of s) fresh)
     × ((name : List ℕ) → length name ≤ name_limit_for size → ReadsAs (world st m') name (joined name (calls_of s) fresh))

@@ -12,8 +12,8 @@ ghost use Rattle.store_look.specs.Look.{lent};
 ghost use Rattle.history.specs.History.{appends, after, play, state_after};
 ghost use Rattle.replay.specs.Script.{world, calls_of, out, replay_of, Replayed};
 
+use limits::Refusal;
 use store_append::Appended;
-use store_create::Created;
 use store_state::State;
 
 fn state_of(a: Appended) -> State
@@ -73,7 +73,7 @@ pub fn replay(
     keys: &mut [u8],
     lists: &mut [u8],
     script: &[u8],
-) -> Created
+) -> Result<State, Refusal>
     ensures settled { out result (lent table.new keys.new lists.new)
         ≡ replay_of capacity seed size (lent table.old keys.old lists.old)
         script.now }
@@ -81,9 +81,6 @@ pub fn replay(
         (lent table.old keys.old lists.old) script.now
         result (lent table.new keys.new lists.new) }
 {
-    let made = store_create::create(capacity, seed, size, table, keys, lists);
-    let Created::Made(st) = made else {
-        return made;
-    };
-    Created::Made(play_script(st, table, keys, lists, script))
+    let st = store_create::create(capacity, seed, size, table, keys, lists)?;
+    Ok(play_script(st, table, keys, lists, script))
 }

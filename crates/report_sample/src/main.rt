@@ -10,7 +10,6 @@ use report_read::check::Checked;
 use report_read::pick::Picked;
 use report_read::unhex::Unhexed;
 use store_append::Appended;
-use store_create::Created;
 use store_state::State;
 
 // The descriptor of standard output.
@@ -142,7 +141,7 @@ fn go_on(st: State, table: &mut [u32], keys: &mut [u8], lists: &mut [u8], output
 
 fn play(table: &mut [u32], keys: &mut [u8], lists: &mut [u8], output: &mut [u8]) {
     let made = store_create::create(1, 7, limits::PAGE_SIZE, table, keys, lists);
-    let Created::Made(st) = made else {
+    let Ok(st) = made else {
         return;
     };
     print(st, table, keys, lists, output);

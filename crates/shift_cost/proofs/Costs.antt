@@ -12,9 +12,7 @@ use borrow.Author.Tests.{leb-true, leb-false}
 use Rattle.limits.specs.Limits.{page_taken, page_least, name_limit_for, record_extra}
 use Rattle.fastcmp.specs.Equal.{equal_bytes}
 use Rattle.memory_arena.specs.declared.Arena.{Arena}
-use Rattle.memory_arena.specs.declared.Allocated.{Allocated}
-use Rattle.memory_arena.specs.declared.Allocated.TheVariants.{At, NoRoom, Refused}
-use Rattle.memory_arena.specs.Pages.{room_for}
+use Rattle.memory_arena.specs.Pages.{MaybeRoom, room_for}
 use Rattle.expull_header.specs.declared.Header.{Header}
 use Rattle.expull_header.specs.Header.{taken_bytes, fresh}
 use Rattle.expull_append.specs.Append.{planned, plan_of, is_some}
@@ -39,13 +37,14 @@ use Rattle.lending.specs.Lending.{block_tail, taken_at_most, key_bytes_for}
 use Rattle.shift_cost.specs.Shift.{sum_of, over_lanes, length_in, taken_in, told_length, bytes_of_all, taken_of_all}
 use Rattle.shift_cost.specs.Promises.{ShiftCosts, StaysWithin, LentFor, NeverRefused}
 use Rattle.shift_cost.proofs.Calls.{log-one, by-calls}
-use Rattle.shift_cost.proofs.Pages.{Holds, never_crammed, room-answers}
+use Rattle.shift_cost.proofs.Pages.{Holds, never_crammed}
 use Rattle.shift_cost.proofs.Sums.{sum_same, sum_ordered, name-more}
 use Rattle.shift_cost.proofs.Lanes.{shape_number, blocks_more, blocks_wait, plan_fits}
 use Rattle.shift_cost.proofs.Spent.{EachName, bytes-more, each_more, joined-long, taken_at, joined-taken}
 use Rattle.shift_cost.proofs.Spent.{fresh-shape, Spent, spent, key_size, list_size, sum_more}
 use Rattle.shift_cost.proofs.Spent.{lane_most, bytes_one}
 use Rattle.shift_cost.proofs.Never.{not_crowded, taken_cost, taken-few}
+use Rattle.std.specs.Prelude.{Some, None}
 
 -- ---- no number is due
 
@@ -53,10 +52,9 @@ due_some : (o : Option Arena) → is_some o ≡ true → due_blocks o ≡ 0
 due_some none e = absurd (false≢true e)
 due_some (some a) e = refl
 
-due-room : (r : Allocated) → (r ≡ NoRoom → ⊥) → ((k : ℕ) → r ≡ Refused k → ⊥) → (n : ℕ) → n ≡ 0 → due_record r n ≡ 0
-due-room (At at a) f g n e = e
-due-room NoRoom f g n e = absurd (f refl)
-due-room (Refused k) f g n e = absurd (g k refl)
+due-room : (r : MaybeRoom) → (r ≡ None → ⊥) → (n : ℕ) → n ≡ 0 → due_record r n ≡ 0
+due-room (Some r) f n e = e
+due-room None f n e = absurd (f refl)
 
 -- ---- what is asked for
 
@@ -245,7 +243,7 @@ module _ (capacity seed size : ℕ) (table keys lists : List ℕ) (w : World)
         fits = omega (arith, L.short, page_least size sized)
 
         no_room : room_for v.state.key_arena (length v.memory.keys) (length name + record_extra)
-            ≡ NoRoom
+            ≡ None
             → ⊥
         no_room =
             never_crammed (longest + record_extra) v.state.key_arena (length v.memory.keys)
@@ -262,8 +260,6 @@ module _ (capacity seed size : ℕ) (table keys lists : List ℕ) (w : World)
             rw loose
             (due-room (room_for v.state.key_arena (length v.memory.keys) (length name + record_extra))
             no_room
-            (λ k. room-answers v.state.key_arena (length v.memory.keys)
-            (length name + record_extra) k)
             (due_list v.state v.memory fresh (length bs))
             (ap (λ (h : Header). due_list v.state v.memory h (length bs))
             (sym (ap (λ (o : Option (List ℕ)). shape_of (length_in o)) new ∙ fresh-shape)) ∙ list_due))

@@ -12,9 +12,7 @@ use lib.Pow.{pow_mono}
 use borrow.Author.Tests.{leb-true, leb-false, eqb-false}
 use Rattle.limits.specs.Limits.{link_size}
 use Rattle.memory_arena.specs.declared.Arena.{Arena}
-use Rattle.memory_arena.specs.declared.Allocated.{Allocated}
-use Rattle.memory_arena.specs.declared.Allocated.TheVariants.{At, NoRoom, Refused}
-use Rattle.memory_arena.specs.Pages.{room_for}
+use Rattle.memory_arena.specs.Pages.{MaybeRoom, room_for}
 use Rattle.memory_arena.proofs.Laws.{room_size}
 use Rattle.expull_header.specs.Header.{block_size, full_bytes, taken_bytes}
 use Rattle.expull_append.specs.Append.{planned, is_some, on_room_dry}
@@ -26,7 +24,8 @@ use Rattle.history.specs.Promises.{blocks_for}
 use Rattle.history.proofs.Shape.{Fills, shape-fills}
 use Rattle.lending.specs.Lending.{block_tail, with_tails}
 use Rattle.shift_cost.specs.Shift.{length_in, with_bytes, blocks_in, taken_in}
-use Rattle.shift_cost.proofs.Pages.{Holds, holds_more, holds-room, never_full, room-answers}
+use Rattle.shift_cost.proofs.Pages.{Holds, holds_more, holds-room, never_full}
+use Rattle.std.specs.Prelude.{Some, None}
 
 -- ---- so many blocks
 
@@ -187,7 +186,7 @@ module _ (len K o : ℕ) where
       go (eqb n 0) refl (room_for a len (block_size (k + 2 + 1) + link_size)) refl e
       (λ c l g J p. plan_holds turns c (suc k) (n - block_size (k + 2 + 1)) b l g J p)
     where
-      go : (z : Bool) → eqb n 0 ≡ z → (r : Allocated) → room_for a len (block_size (k + 2 + 1) + link_size) ≡ r
+      go : (z : Bool) → eqb n 0 ≡ z → (r : MaybeRoom) → room_for a len (block_size (k + 2 + 1) + link_size) ≡ r
           → cond z (some a) (on_room_dry r (λ c. planned turns len c (k + 2 + 1) (n - block_size (k + 2 + 1)))) ≡ some b
           → ((c : Arena) → suc k ≤ K
           → (0 < n - block_size (k + 2 + 1) → full_bytes (suc k) + (n - block_size (k + 2 + 1)) ≤ full_bytes K)
@@ -196,18 +195,17 @@ module _ (len K o : ℕ) where
           → Holds block_tail b (o + taken_bytes K))
           → Holds block_tail b (o + taken_bytes K)
       go true z r q e ih = let p : a ≡ b = cc in rw (← p) (holds_more (omega (arith, full_up k K h)) H)
-      go false z (At at c) q e ih =
+      go false z (Some r) q e ih =
           let s : 0 < n = omega (arith, eqb-false n 0 z) in
           let t : o + taken_bytes k + (block_size (k + 2 + 1) + link_size) ≡ o + taken_bytes (suc k) =
           omega (arith, taken_next k) in
           let p : suc k + 2 ≡ k + 2 + 1 = omega arith in
-          ih c (turn k n s f) (rest k n s f)
-          (subst (Holds block_tail c) t
+          ih r.after (turn k n s f) (rest k n s f)
+          (subst (Holds block_tail r.after) t
           (holds-room block_tail a len (block_size (k + 2 + 1) + link_size) (o + taken_bytes k) (omega arith)
-          (wide k) H at c q))
+          (wide k) H r.at r.after q))
           (rw p e)
-      go false z NoRoom q e ih = let p : ◌≡◌ {A = ℕ} 0 1 = cc in absurd (omega arith)
-      go false z (Refused j) q e ih = let p : ◌≡◌ {A = ℕ} 0 1 = cc in absurd (omega arith)
+      go false z None q e ih = let p : ◌≡◌ {A = ℕ} 0 1 = cc in absurd (omega arith)
 
   -- and they do fit where enough is lent, of pages that hold the largest
   module _ (s total : ℕ) (large : block_tail < s) (most : o + taken_bytes K ≤ total)
@@ -221,7 +219,7 @@ module _ (len K o : ℕ) where
         go (eqb n 0) refl (room_for a len (block_size (k + 2 + 1) + link_size)) refl
         (λ c x l g J. plan_fits turns c (suc k) (n - block_size (k + 2 + 1)) x l g J)
       where
-        go : (z : Bool) → eqb n 0 ≡ z → (r : Allocated) → room_for a len (block_size (k + 2 + 1) + link_size) ≡ r
+        go : (z : Bool) → eqb n 0 ≡ z → (r : MaybeRoom) → room_for a len (block_size (k + 2 + 1) + link_size) ≡ r
             → ((c : Arena) → c.size ≡ s → suc k ≤ K
             → (0 < n - block_size (k + 2 + 1) → full_bytes (suc k) + (n - block_size (k + 2 + 1)) ≤ full_bytes K)
             → Holds block_tail c (o + taken_bytes (suc k))
@@ -229,21 +227,19 @@ module _ (len K o : ℕ) where
             → is_some (cond z (some a) (on_room_dry r (λ c. planned turns len c (k + 2 + 1) (n - block_size (k + 2 + 1)))))
             ≡ true
         go true z r q ih = refl
-        go false z (At at c) q ih =
+        go false z (Some r) q ih =
             let s : 0 < n = omega (arith, eqb-false n 0 z) in
             let t : o + taken_bytes k + (block_size (k + 2 + 1) + link_size) ≡ o + taken_bytes (suc k) =
             omega (arith, taken_next k) in
             let p : suc k + 2 ≡ k + 2 + 1 = omega arith in
             rw p at
-            (ih c (room_size a len (block_size (k + 2 + 1) + link_size) at c q ∙ sized) (turn k n s f) (rest k n s f)
-            (subst (Holds block_tail c) t
+            (ih r.after (room_size a len (block_size (k + 2 + 1) + link_size) r.at r.after q ∙ sized) (turn k n s f) (rest k n s f)
+            (subst (Holds block_tail r.after) t
             (holds-room block_tail a len (block_size (k + 2 + 1) + link_size) (o + taken_bytes k) (omega arith)
-            (wide k) H at c q)))
-        go false z NoRoom q ih =
+            (wide k) H r.at r.after q)))
+        go false z None q ih =
             let y : 0 < n = omega (arith, eqb-false n 0 z) in
             absurd (never_full block_tail a len (block_size (k + 2 + 1) + link_size) (o + taken_bytes k)
             (omega arith) (wide k) H total (omega (arith, wide k, sized, large)) (omega (arith, sized, large))
             (omega (arith, taken_next k, full_up (suc k) K (turn k n y f), turn k n y f))
             (subst (λ (x : ℕ). with_tails x block_tail total ≤ len) (sym sized) lent) q)
-        go false z (Refused j) q ih =
-            absurd (room-answers a len (block_size (k + 2 + 1) + link_size) j q)

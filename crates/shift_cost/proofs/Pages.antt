@@ -9,11 +9,11 @@ use native.Mathlib.Omega.{arith}
 use lib.Dec.{leb}
 use borrow.Author.Tests.{leb-true, leb-false}
 use Rattle.memory_arena.specs.declared.Arena.{Arena}
-use Rattle.memory_arena.specs.declared.Allocated.{Allocated}
-use Rattle.memory_arena.specs.declared.Allocated.TheVariants.{At, NoRoom, Refused}
 use Rattle.memory_arena.specs.Address.{address_of}
-use Rattle.memory_arena.specs.Pages.{capacity_of, room_for}
+use Rattle.memory_arena.specs.declared.Room.{Room}
+use Rattle.memory_arena.specs.Pages.{MaybeRoom, room_at, capacity_of, room_for}
 use Rattle.lending.specs.Lending.{with_tails}
+use Rattle.std.specs.Prelude.{None}
 
 -- ---- an allocation
 
@@ -25,10 +25,10 @@ abbrev next-on : Arena → ℕ → Arena
 next-on a n = record { page = a.page + 1; used = n; size = a.size }
 
 -- by the two tests: whether it fits the one, whether it fits the other
-abbrev laying : Bool → Bool → Arena → ℕ → Allocated
+abbrev laying : Bool → Bool → Arena → ℕ → MaybeRoom
 laying x y a n =
-    cond x (At (address_of a.size a.page a.used) (here_on a n))
-    (cond y (At (address_of a.size (a.page + 1) 0) (next-on a n)) NoRoom)
+    cond x (room_at (address_of a.size a.page a.used) (here_on a n))
+    (cond y (room_at (address_of a.size (a.page + 1) 0) (next-on a n)) None)
 
 module _ (a : Arena) (len n : ℕ) where
   abbrev fits_here : Bool
@@ -38,7 +38,7 @@ module _ (a : Arena) (len n : ℕ) where
   fits_next = leb n (capacity_of a.size len (a.page + 1))
 
   -- at the used end; or on the next page, only where the current one is whole and hasn't the room
-  pub laid : (P : Arena → Type 0) (at : ℕ) (b : Arena) → 0 < n → room_for a len n ≡ At at b → P (here_on a n)
+  pub laid : (P : Arena → Type 0) (at : ℕ) (b : Arena) → 0 < n → room_for a len n ≡ room_at at b → P (here_on a n)
       → (a.size < a.used + n → P (next-on a n)) → P b
   unfolding room_for
   laid P at b some f here next = go fits_here refl fits_next refl f
@@ -47,34 +47,27 @@ module _ (a : Arena) (len n : ℕ) where
           → a.size < a.used + n
       skipped f g = omega (arith, suc-mul a.page a.size)
 
-      go : (x : Bool) → fits_here ≡ x → (y : Bool) → fits_next ≡ y → laying x y a n ≡ At at b → P b
-      go true p y q f = let e : here_on a n ≡ b = cc in rw (← e) here
-      go false p true q f =
-          let e : next-on a n ≡ b = cc in
-          rw (← e) (next (skipped (leb-false _ _ p) (leb-true _ _ q)))
+      after : (k : ℕ) (c : Arena) → room_at k c ≡ room_at at b → c ≡ b
+      after k c e =
+          ap (λ (r : Room). r.after)
+          (let r : ◌≡◌ {A = Room} (record { at = k; after = c }) (record { at = at; after = b }) = cc in r)
+
+      go : (x : Bool) → fits_here ≡ x → (y : Bool) → fits_next ≡ y → laying x y a n ≡ room_at at b → P b
+      go true p y q f = rw (← after _ _ f) here
+      go false p true q f = rw (← after _ _ f) (next (skipped (leb-false _ _ p) (leb-true _ _ q)))
       go false p false q f = let z : ◌≡◌ {A = ℕ} 0 1 = cc in absurd (omega arith)
 
   -- no room: neither on the current page nor on the next
-  pub unlaid : room_for a len n ≡ NoRoom
+  pub unlaid : room_for a len n ≡ None
       → (capacity_of a.size len a.page < a.used + n) × (capacity_of a.size len (a.page + 1) < n)
   unfolding room_for
   unlaid f = go fits_here refl fits_next refl f
     where
-      go : (x : Bool) → fits_here ≡ x → (y : Bool) → fits_next ≡ y → laying x y a n ≡ NoRoom
+      go : (x : Bool) → fits_here ≡ x → (y : Bool) → fits_next ≡ y → laying x y a n ≡ None
           → (capacity_of a.size len a.page < a.used + n) × (capacity_of a.size len (a.page + 1) < n)
       go true p y q f = let z : ◌≡◌ {A = ℕ} 0 1 = cc in absurd (omega arith)
       go false p true q f = let z : ◌≡◌ {A = ℕ} 0 1 = cc in absurd (omega arith)
       go false p false q f = (leb-false _ _ p, leb-false _ _ q)
-
-  -- and it never answers a number of its own
-  pub room-answers : (k : ℕ) → room_for a len n ≡ Refused k → ⊥
-  unfolding room_for
-  room-answers k f = go fits_here fits_next f
-    where
-      go : (x y : Bool) → laying x y a n ≡ Refused k → ⊥
-      go true y f = let z : ◌≡◌ {A = ℕ} 0 1 = cc in omega arith
-      go false true f = let z : ◌≡◌ {A = ℕ} 0 1 = cc in omega arith
-      go false false f = let z : ◌≡◌ {A = ℕ} 0 1 = cc in omega arith
 
 -- ---- pieces by their bytes
 
@@ -88,7 +81,7 @@ pub holds_more : {tail : ℕ} {a : Arena} {t u : ℕ} → t ≤ u → Holds tail
 holds_more l H = record { ends = omega (arith, H.ends); first = λ z. le_trans (H.first z) l }
 
 module _ (tail : ℕ) (a : Arena) (len n t : ℕ) (some : 0 < n) (small : n ≤ tail + 1) (H : Holds tail a t) where
-  pub holds-room : (at : ℕ) (b : Arena) → room_for a len n ≡ At at b → Holds tail b (t + n)
+  pub holds-room : (at : ℕ) (b : Arena) → room_for a len n ≡ room_at at b → Holds tail b (t + n)
   holds-room at b f =
       laid a len n (λ b. Holds tail b (t + n)) at b some f
       (record { ends = omega (arith, H.ends); first = λ z. omega (arith, H.first z) })
@@ -102,7 +95,7 @@ module _ (tail : ℕ) (a : Arena) (len n t : ℕ) (some : 0 < n) (small : n ≤ 
       first o (suc p) e = omega (arith, H.first (omega arith))
 
   pub never_full : (total : ℕ) → n ≤ a.size → tail < a.size → t + n ≤ total → with_tails a.size tail total ≤ len
-      → room_for a len n ≡ NoRoom → ⊥
+      → room_for a len n ≡ None → ⊥
   unfolding with_tails
   never_full total w d m l f = let u = unlaid a len n f in short (leb total a.size) refl l u.0 u.1
     where
@@ -141,7 +134,7 @@ pub record Lays (r : ℕ) (a : Arena) (k : ℕ) : Type 0 where
   pub used : a.used ≤ here * r
 
 module _ (r : ℕ) (a : Arena) (len n k : ℕ) (some : 0 < n) (small : n ≤ r) (fits : r ≤ a.size) (L : Lays r a k) where
-  pub lays-room : (at : ℕ) (b : Arena) → room_for a len n ≡ At at b → Lays r b (k + 1)
+  pub lays-room : (at : ℕ) (b : Arena) → room_for a len n ≡ room_at at b → Lays r b (k + 1)
   lays-room at b f =
       laid a len n (λ b. Lays r b (k + 1)) at b some f
       (record {
@@ -164,7 +157,7 @@ module _ (r : ℕ) (a : Arena) (len n k : ℕ) (some : 0 < n) (small : n ≤ r) 
           )
 
   pub never_crammed : (most : ℕ) → k + 1 ≤ most
-      → (most - 1) / (a.size / r) * a.size + ((most - 1) % (a.size / r) + 1) * r ≤ len → room_for a len n ≡ NoRoom → ⊥
+      → (most - 1) / (a.size / r) * a.size + ((most - 1) % (a.size / r) + 1) * r ≤ len → room_for a len n ≡ None → ⊥
   never_crammed most m l f = let u = unlaid a len n f in go (leb q a.page) refl u.0 u.1
     where
       q : ℕ

@@ -15,9 +15,7 @@ use Rattle.spans.specs.Span.{read_span, overwrite}
 use Rattle.spans.proofs.Laws.{length-overwrite, read_written, read_before}
 use Rattle.murmurhash2.specs.Murmur.{murmur_hash2}
 use Rattle.memory_arena.specs.declared.Arena.{Arena}
-use Rattle.memory_arena.specs.declared.Allocated.{Allocated}
-use Rattle.memory_arena.specs.declared.Allocated.TheVariants.{At, NoRoom, Refused}
-use Rattle.memory_arena.specs.Pages.{room_for}
+use Rattle.memory_arena.specs.Pages.{MaybeRoom, room_for}
 use Rattle.memory_arena.proofs.Laws.{sensible_facts, room_in}
 use Rattle.shared_arena_hashmap.specs.declared.Met.{Met}
 use Rattle.shared_arena_hashmap.specs.declared.Met.TheVariants.{Empty, Standing, Damaged, Lap}
@@ -46,6 +44,7 @@ use Rattle.store_append.proofs.Growth.{Growable, growable, grown-stands}
 use Rattle.store_state.proofs.Guard.{kind_short}
 use Rattle.store_append.proofs.Cases.{state-stays, state-grows, table_stays, table-grows, does_grow, stays_unsaturated}
 use Rattle.records.proofs.Laws.{record_written}
+use Rattle.std.specs.Prelude.{Some, None}
 
 -- the key of a record as it is written
 key_written : (at : ℕ) (name : List ℕ) (h : Header) (keys : List ℕ) → length name ≤ name_limit
@@ -147,17 +146,16 @@ module _ (st : State) (m : Lent) (c : checked st m ≡ true) (name : List ℕ) (
           counted = refl;
         })
 
-    enters-room : is_crowded st ≡ false → (r : Allocated)
+    enters-room : is_crowded st ≡ false → (r : MaybeRoom)
         → room_for st.key_arena (length m.keys) (length name + record_extra) ≡ r
         → Enters st m name (on_key_room r st m name bytes)
     unfolding on_key_room
-    enters-room k (At at a) e =
-        enters_written at a k
-        (room_in st.key_arena (length m.keys) (length name + record_extra) at a (omega arith)
+    enters-room k (Some r) e =
+        enters_written r.at r.after k
+        (room_in st.key_arena (length m.keys) (length name + record_extra) r.at r.after (omega arith)
         (sensible_facts st.key_arena (length m.keys) whole.key_arena).stands e)
         (appended bytes (writing m.lists st.list_arena fresh))
-    enters-room k NoRoom e = enters-declined 6
-    enters-room k (Refused n) e = enters-declined 6
+    enters-room k None e = enters-declined 6
 
     enters-new : Enters st m name (append_new st m name bytes)
     unfolding append_new

@@ -14,9 +14,7 @@ use Rattle.spans.specs.Span.{overwrite}
 use Rattle.spans.proofs.Laws.{length-overwrite}
 use Rattle.murmurhash2.specs.Murmur.{murmur_hash2}
 use Rattle.memory_arena.specs.declared.Arena.{Arena}
-use Rattle.memory_arena.specs.declared.Allocated.{Allocated}
-use Rattle.memory_arena.specs.declared.Allocated.TheVariants.{At, NoRoom, Refused}
-use Rattle.memory_arena.specs.Pages.{room_for}
+use Rattle.memory_arena.specs.Pages.{MaybeRoom, room_for}
 use Rattle.memory_arena.specs.Calls.{sensible}
 use Rattle.memory_arena.proofs.Laws.{room_size, room-sensible}
 use Rattle.shared_arena_hashmap.specs.declared.Met.{Met}
@@ -31,7 +29,6 @@ use Rattle.expull_header.specs.Header.{fresh, header_bytes}
 use Rattle.expull_append.specs.Append.{Writing, writing, appended, good_tail}
 use Rattle.expull_append.proofs.Laws.{appended-length, appended-sensible, appended_size}
 use Rattle.store_state.specs.declared.State.{State}
-use Rattle.store_create.specs.declared.Created.TheVariants.{Made, Barred}
 use Rattle.store_append.specs.declared.Appended.TheVariants.{Accepted}
 use Rattle.store_create.specs.Create.{out as Create·out, creatable, fresh_state, create_of}
 use Rattle.store_state.specs.declared.Name.{Name}
@@ -46,6 +43,9 @@ use Rattle.store_state.proofs.Whole.{Whole, whole_facts, whole_made}
 use Rattle.store_create.proofs.Creation.{creatable_facts, unused-sensible}
 use Rattle.store_append.proofs.Growth.{Growable, growable, grown-stands}
 use Rattle.store_append.proofs.Cases.{state-stays, state-grows, stays_unsaturated, stays_crowded, does_grow}
+use Rattle.std.specs.Prelude.{Ok, Err}
+use Rattle.limits.specs.declared.Refusal.TheVariants.{NotCreatable}
+use Rattle.std.specs.Prelude.{Some, None}
 
 -- ---- growth
 
@@ -200,18 +200,17 @@ module _ (st : State) (m : Lent) (c : checked st m ≡ true) where
       (length-overwrite at (record_bytes name v.header) m.keys)
       (appended-length bytes (writing m.lists st.list_arena fresh) v e))
 
-  keeps-room : (name bytes : List ℕ) → is_crowded st ≡ false → (r : Allocated)
+  keeps-room : (name bytes : List ℕ) → is_crowded st ≡ false → (r : MaybeRoom)
       → room_for st.key_arena (length m.keys) (length name + record_extra) ≡ r
       → Keeps st (on_key_room r st m name bytes)
   unfolding on_key_room
-  keeps-room name bytes e (At at a) f =
+  keeps-room name bytes e (Some r) f =
       let n = length name + record_extra in
-      keeps-new_written name bytes at a e
-      (room-sensible st.key_arena (length m.keys) n at a (omega arith) w.key_arena f)
-      (room_size st.key_arena (length m.keys) n at a f)
+      keeps-new_written name bytes r.at r.after e
+      (room-sensible st.key_arena (length m.keys) n r.at r.after (omega arith) w.key_arena f)
+      (room_size st.key_arena (length m.keys) n r.at r.after f)
       (appended bytes (writing m.lists st.list_arena fresh)) refl
-  keeps-room name bytes e NoRoom f = keeps-declined st m 6
-  keeps-room name bytes e (Refused n) f = keeps-declined st m 6
+  keeps-room name bytes e None f = keeps-declined st m 6
 
   keeps-new : (name bytes : List ℕ) → Keeps st (append_new st m name bytes)
   unfolding append_new
@@ -250,19 +249,19 @@ append_size st m name bytes s e = (appended-keeps st m name bytes s e).1
 -- ---- creation
 
 pub create_whole : (capacity seed size : ℕ) (table keys lists : List ℕ) (s : State)
-    → (create_of capacity seed size table (length keys) (length lists)).answer ≡ Made s
+    → (create_of capacity seed size table (length keys) (length lists)).answer ≡ Ok s
     → checked s (lent (create_of capacity seed size table (length keys) (length lists)).table keys lists) ≡ true
 unfolding create_of
 create_whole capacity seed size table keys lists s =
     go (creatable capacity size (length table) (length keys) (length lists)) refl
   where
     go : (b : Bool) → creatable capacity size (length table) (length keys) (length lists) ≡ b
-        → (cond b (Create·out (Made
+        → (cond b (Create·out (Ok
         (fresh_state seed size (length table) (length keys) (length lists) (rounded_down capacity)))
-        (cleared 0 (rounded_down capacity) table)) (Create·out (Barred 1) table)).answer ≡ Made s
+        (cleared 0 (rounded_down capacity) table)) (Create·out (Err NotCreatable) table)).answer ≡ Ok s
         → checked s (lent (cond b
-        (Create·out (Made (fresh_state seed size (length table) (length keys) (length lists) (rounded_down capacity)))
-        (cleared 0 (rounded_down capacity) table)) (Create·out (Barred 1) table)).table keys lists) ≡ true
+        (Create·out (Ok (fresh_state seed size (length table) (length keys) (length lists) (rounded_down capacity)))
+        (cleared 0 (rounded_down capacity) table)) (Create·out (Err NotCreatable) table)).table keys lists) ≡ true
     go true c e =
         let q : fresh_state seed size (length table) (length keys) (length lists) (rounded_down capacity) ≡ s = cc in
         let f = creatable_facts capacity size (length table) (length keys) (length lists) c in

@@ -9,7 +9,6 @@ use Rattle.limits.specs.Refusals.{one-outcome}
 use Rattle.shared_arena_hashmap.specs.Power.{rounded_down}
 use Rattle.shared_arena_hashmap.specs.Buckets.{cleared}
 use Rattle.store_state.specs.declared.State.{State}
-use Rattle.store_create.specs.declared.Created.TheVariants.{Made, Barred}
 use Rattle.store_append.specs.declared.Appended.TheVariants.{Declined}
 use Rattle.store_create.specs.Create.{out as creation, creatable, fresh_state, create_of}
 use Rattle.store_look.specs.declared.Lookup.{Lookup}
@@ -26,24 +25,27 @@ use Rattle.store_look.proofs.Fair.{fair-read}
 use Rattle.store_append.proofs.Fair.{fair-append}
 use Rattle.store.proofs.Kept.{create_whole, append-whole, append_size}
 use Rattle.store.proofs.Enters.{append-enters}
+use Rattle.std.specs.Prelude.{Ok, Err}
+use Rattle.limits.specs.declared.Refusal.{Refusal}
+use Rattle.limits.specs.declared.Refusal.TheVariants.{NotCreatable}
 
-create_refused : (capacity seed size : ℕ) (table : List ℕ) (key_bytes list_bytes n : ℕ)
-    → (create_of capacity seed size table key_bytes list_bytes).answer ≡ Barred n
-    → create_of capacity seed size table key_bytes list_bytes ≡ creation (Barred 1) table
+create_refused : (capacity seed size : ℕ) (table : List ℕ) (key_bytes list_bytes : ℕ) (e : Refusal)
+    → (create_of capacity seed size table key_bytes list_bytes).answer ≡ Err e
+    → create_of capacity seed size table key_bytes list_bytes ≡ creation (Err NotCreatable) table
 unfolding create_of
-create_refused capacity seed size table key_bytes list_bytes n =
+create_refused capacity seed size table key_bytes list_bytes e =
     go (creatable capacity size (length table) key_bytes list_bytes)
   where
     fresh : State
     fresh = fresh_state seed size (length table) key_bytes list_bytes (rounded_down capacity)
 
     go : (b : Bool)
-        → (cond b (creation (Made fresh) (cleared 0 (rounded_down capacity) table))
-        (creation (Barred 1) table)).answer ≡ Barred n
-        → cond b (creation (Made fresh) (cleared 0 (rounded_down capacity) table)) (creation (Barred 1) table)
-        ≡ creation (Barred 1) table
-    go true e = let z : ◌≡◌ {A = ℕ} 0 1 = cc in absurd (omega arith)
-    go false e = refl
+        → (cond b (creation (Ok fresh) (cleared 0 (rounded_down capacity) table))
+        (creation (Err NotCreatable) table)).answer ≡ Err e
+        → cond b (creation (Ok fresh) (cleared 0 (rounded_down capacity) table)) (creation (Err NotCreatable) table)
+        ≡ creation (Err NotCreatable) table
+    go true q = let z : ◌≡◌ {A = ℕ} 0 1 = cc in absurd (omega arith)
+    go false q = refl
 
 append_refused : (st : State) (m : Lent) (name bytes : List ℕ) (st' : State) (n : ℕ)
     → (append_of st m name bytes).answer ≡ Declined st' n → append_of st m name bytes ≡ declined st m n

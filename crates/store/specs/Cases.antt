@@ -4,13 +4,13 @@ use Rattle.std.specs.Prelude.{ℕ, ◌≡◌, refl, [], ◌∷◌}
 use Rattle.spans.specs.Span.{overwrite}
 use Rattle.expull_header.specs.Header.{header_bytes}
 use Rattle.store_state.specs.declared.State.{State}
-use Rattle.store_create.specs.declared.Created.TheVariants.{Made}
 use Rattle.store_create.specs.Create.{out as creation, fresh_state, create_of}
 use Rattle.store_look.specs.declared.Lookup.TheVariants.{Missing}
 use Rattle.store_look.specs.Look.{Lent, lent, lookup_of}
 use Rattle.store_look.specs.Cases.{sevens, lane_a, holding, held}
 use Rattle.store_append.specs.declared.Appended.TheVariants.{Accepted}
 use Rattle.store_append.specs.Append.{out, append_of}
+use Rattle.std.specs.Prelude.{Ok}
 
 -- the state as created over so many words with capacity 1 and seed 0, and the memory
 abbrev start : ℕ → State
@@ -20,8 +20,8 @@ abbrev lent_at_first : ℕ → Lent
 lent_at_first words = lent (create_of 1 0 65536 (sevens words) 64 64).table (sevens 64) (sevens 64)
 
 -- RULES C3. Over 18 words, and over the two that one bucket takes.
-pub made : (create_of 1 0 65536 (sevens 18) 64 64 ≡ creation (Made (start 18)) (lent_at_first 18).table)
-    × (create_of 1 0 65536 (sevens 2) 64 64 ≡ creation (Made (start 2)) (lent_at_first 2).table)
+pub made : (create_of 1 0 65536 (sevens 18) 64 64 ≡ creation (Ok (start 18)) (lent_at_first 18).table)
+    × (create_of 1 0 65536 (sevens 2) 64 64 ≡ creation (Ok (start 2)) (lent_at_first 2).table)
 unfolding create_of
 made = (refl, refl)
 

@@ -6,7 +6,6 @@ use Rattle.murmurhash2.specs.Murmur.{murmur_hash2}
 use Rattle.shared_arena_hashmap.specs.Buckets.{address_at, hash_at, empty_at}
 use Rattle.records.specs.Record.{key_at}
 use Rattle.store_state.specs.declared.State.{State}
-use Rattle.store_create.specs.declared.Created.TheVariants.{Made, Barred}
 use Rattle.store_append.specs.declared.Appended.TheVariants.{Accepted, Declined}
 use Rattle.store_look.specs.declared.Lookup.{Lookup}
 use Rattle.store_look.specs.declared.Lookup.TheVariants.{Missing}
@@ -19,6 +18,9 @@ use Rattle.store_create.specs.Create.{Out as Creation, out as creation, create_o
 use Rattle.store_look.specs.Look.{Lent, lent, checked, lookup_of, length_of, Read, reading, read_of, find_block_of}
 use Rattle.store_look.specs.Look.{show_of, next_of, count_of}
 use Rattle.store_append.specs.Append.{Out, declined, table_grown, append_of}
+use Rattle.std.specs.Prelude.{Ok, Err}
+use Rattle.limits.specs.declared.Refusal.{Refusal}
+use Rattle.limits.specs.declared.Refusal.TheVariants.{NotCreatable}
 
 -- ---- a new name entered
 
@@ -37,9 +39,9 @@ pub record Entered (st : State) (m : Lent) (name : List ℕ) (st' : State) (m' :
 -- RULES B7, B9, Q1, V1, X4.
 pub record Promises : Type 0 where
   -- "Nothing lent changes on a refusal; the state comes back equal."
-  pub create_refused : (capacity seed size : ℕ) (table : List ℕ) (key_bytes list_bytes n : ℕ)
-      → (create_of capacity seed size table key_bytes list_bytes).answer ≡ Barred n
-      → create_of capacity seed size table key_bytes list_bytes ≡ creation (Barred 1) table
+  pub create_refused : (capacity seed size : ℕ) (table : List ℕ) (key_bytes list_bytes : ℕ) (e : Refusal)
+      → (create_of capacity seed size table key_bytes list_bytes).answer ≡ Err e
+      → create_of capacity seed size table key_bytes list_bytes ≡ creation (Err NotCreatable) table
   pub append_refused : (st : State) (m : Lent) (name bytes : List ℕ) (st' : State) (n : ℕ)
       → (append_of st m name bytes).answer ≡ Declined st' n → append_of st m name bytes ≡ declined st m n
   pub read_refused : (st : State) (m : Lent) (name output : List ℕ) (n told : ℕ)
@@ -50,7 +52,7 @@ pub record Promises : Type 0 where
   -- what an accepted creation or append gives passes the whole-state check, or the next call would be refused for what
   -- this one did
   pub create_whole : (capacity seed size : ℕ) (table keys lists : List ℕ) (st : State)
-      → (create_of capacity seed size table (length keys) (length lists)).answer ≡ Made st
+      → (create_of capacity seed size table (length keys) (length lists)).answer ≡ Ok st
       → checked st (lent (create_of capacity seed size table (length keys) (length lists)).table keys lists) ≡ true
   pub append-whole : (st : State) (m : Lent) (name bytes : List ℕ) (st' : State)
       → (append_of st m name bytes).answer ≡ Accepted st' → checked st' (append_of st m name bytes).memory ≡ true

@@ -3,19 +3,15 @@ use Prim.Native.Nat.{ℕ, ◌+◌}
 use mathlib.Core.Path.{◌≡◌, refl, ap, ◌∙◌}
 use mathlib.Core.Bool.{true, false}
 use mathlib.Core.Option.{Option, none, some}
-use mathlib.Core.List.{List, [], ◌∷◌}
-use types.Run.{OneOf, miss}
-use denote.Enum.Declared.{tag_of}
+use mathlib.Core.List.{List}
 use lib.ListN.{length}
 use Rattle.limits.specs.Limits.{record_extra}
 use Rattle.numbers.proofs.Tests.{both_true, left_false, right_false, not_both}
 use Rattle.spans.specs.Span.{overwrite}
 use Rattle.murmurhash2.specs.Murmur.{murmur_hash2}
 use Rattle.memory_arena.specs.declared.Arena.{Arena}
-use Rattle.memory_arena.specs.declared.Allocated.{Allocated}
-use Rattle.memory_arena.specs.declared.Allocated.TheVariants.{At, NoRoom, Refused}
-use Rattle.memory_arena.specs.contracts.Allocated.{the_type}
-use Rattle.memory_arena.specs.Pages.{room_for}
+use Rattle.std.specs.Prelude.{None}
+use Rattle.memory_arena.specs.Pages.{MaybeRoom, room_at, room_for}
 use Rattle.shared_arena_hashmap.specs.declared.Met.{Met}
 use Rattle.shared_arena_hashmap.specs.declared.Met.TheVariants.{Empty, Standing, Damaged, Lap}
 use Rattle.shared_arena_hashmap.specs.Power.{grown_length}
@@ -110,23 +106,19 @@ module _ (st : State) (m : Lent) (name bytes : List ℕ) where
   unfolding append_new
   new_5 e = rw e
 
-  pub new-room : is_crowded st ≡ false → (r : Allocated)
+  pub new-room : is_crowded st ≡ false → (r : MaybeRoom)
       → room_for st.key_arena (length m.keys) (length name + record_extra) ≡ r
       → append_new st m name bytes ≡ on_key_room r st m name bytes
   unfolding append_new
   new-room e r f = rw (e, f)
 
-  -- room that code has told apart from an address
-  pub new_6_told : (r : Allocated) → OneOf (1 ∷ 2 ∷ []) (tag_of the_type r)
-      → on_key_room r st m name bytes ≡ declined st m 6
+  pub new_6 : on_key_room None st m name bytes ≡ declined st m 6
   unfolding on_key_room
-  new_6_told (At at a) o = absurd (miss (1 ∷ 2 ∷ []) 0 tt o)
-  new_6_told NoRoom o = refl
-  new_6_told (Refused n) o = refl
+  new_6 = refl
 
   pub new-at : (at : ℕ) (a : Arena) (w : Option Writing)
       → appended bytes (writing m.lists st.list_arena fresh) ≡ w
-      → on_key_room (At at a) st m name bytes ≡ new_written w st m name at a
+      → on_key_room (room_at at a) st m name bytes ≡ new_written w st m name at a
   unfolding on_key_room
   new-at at a w e = rw e
 

@@ -10,9 +10,8 @@ use lib.ListN.{length}
 use Rattle.limits.specs.Limits.{record_extra}
 use Rattle.limits.specs.Refusals.{appending, is_among, refusal_numbers, permitted}
 use Rattle.memory_arena.specs.declared.Arena.{Arena}
-use Rattle.memory_arena.specs.declared.Allocated.{Allocated}
-use Rattle.memory_arena.specs.declared.Allocated.TheVariants.{At as RoomAt, NoRoom, Refused as RoomRefused}
-use Rattle.memory_arena.specs.Pages.{room_for}
+use Rattle.std.specs.Prelude.{Some, None}
+use Rattle.memory_arena.specs.Pages.{MaybeRoom, room_for}
 use Rattle.shared_arena_hashmap.specs.declared.Met.{Met}
 use Rattle.shared_arena_hashmap.specs.declared.Met.TheVariants.{Empty, Standing, Damaged, Lap}
 use Rattle.expull_append.specs.Append.{Writing, writing, appended, good_tail}
@@ -73,11 +72,10 @@ module _ (st : State) (m : Lent) (name bytes : List ℕ) where
   fair-new_written at a none = fair-declined st m 7 refl
   fair-new_written at a (some w) = fair_accepted st _ m _
 
-  fair-room : (r : Allocated) → Fair st m (on_key_room r st m name bytes)
+  fair-room : (r : MaybeRoom) → Fair st m (on_key_room r st m name bytes)
   unfolding on_key_room
-  fair-room (RoomAt at a) = fair-new_written at a (appended bytes (writing m.lists st.list_arena fresh))
-  fair-room NoRoom = fair-declined st m 6 refl
-  fair-room (RoomRefused n) = fair-declined st m 6 refl
+  fair-room (Some r) = fair-new_written r.at r.after (appended bytes (writing m.lists st.list_arena fresh))
+  fair-room None = fair-declined st m 6 refl
 
   fair-new : Fair st m (append_new st m name bytes)
   unfolding append_new

@@ -1,15 +1,13 @@
 -- RULES V10 to V14. Document 01: an append. "Whether a key stands is decided in the table before growth." Everything
 -- is planned before anything is written: each refusal, the lowest that applies, leaves the lent memory and the state
 -- as they were.
-use Rattle.std.specs.Prelude.{ℕ, ◌+◌, ◌%◌, ◌≤◌, ◌≡◌, Bool, true, false, cond, ◌&&◌, not, List, leb, length}
+use Rattle.std.specs.Prelude.{ℕ, ◌+◌, ◌%◌, ◌≤◌, ◌≡◌, Bool, true, false, cond, ◌&&◌, not, List, leb, length, Some, None}
 use Rattle.std.proofs.Math.Option.{Option, none, some}
 use Rattle.limits.specs.Limits.{record_extra}
 use Rattle.spans.specs.Span.{overwrite}
 use Rattle.murmurhash2.specs.Murmur.{murmur_hash2}
 use Rattle.memory_arena.specs.declared.Arena.{Arena}
-use Rattle.memory_arena.specs.declared.Allocated.{Allocated}
-use Rattle.memory_arena.specs.declared.Allocated.TheVariants.{At, NoRoom, Refused}
-use Rattle.memory_arena.specs.Pages.{room_for}
+use Rattle.memory_arena.specs.Pages.{MaybeRoom, room_for}
 use Rattle.shared_arena_hashmap.specs.declared.Met.{Met}
 use Rattle.shared_arena_hashmap.specs.declared.Met.TheVariants.{Empty, Standing, Damaged, Lap}
 use Rattle.shared_arena_hashmap.specs.Power.{power_of_two, grown_length}
@@ -159,12 +157,11 @@ new_written (some w) st m name at keyArena =
     (overwrite at (record_bytes name w.header) m.keys) w.memory)
 
 -- RULES V13. The new record's room; its list starts fresh.
-unfoldable pub on_key_room : Allocated → State → Lent → List ℕ → List ℕ → Out
+unfoldable pub on_key_room : MaybeRoom → State → Lent → List ℕ → List ℕ → Out
 unfolding new_written appended
-on_key_room (At at keyArena) st m name bytes =
-    new_written (appended bytes (writing m.lists st.list_arena fresh)) st m name at keyArena
-on_key_room NoRoom st m name bytes = declined st m 6
-on_key_room (Refused n) st m name bytes = declined st m 6
+on_key_room (Some r) st m name bytes =
+    new_written (appended bytes (writing m.lists st.list_arena fresh)) st m name r.at r.after
+on_key_room None st m name bytes = declined st m 6
 
 -- RULES V13. An append to a name that doesn't stand.
 unfoldable pub append_new : State → Lent → List ℕ → List ℕ → Out

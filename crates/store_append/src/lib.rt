@@ -25,7 +25,7 @@ ghost use Rattle.store_append.specs.Append.{table_grown, moved_state, append_sta
 ghost use Rattle.store_append.specs.Append.{new_written, append_new, on_met, append_of, Looked, LastEmpty, Carried};
 
 use expull_header::Header;
-use memory_arena::{Allocated, Arena};
+use memory_arena::{Arena, Room};
 use records::Head;
 use shared_arena_hashmap::Met;
 use store_state::{Name, State};
@@ -57,18 +57,14 @@ fn grown_length(buckets: usize) -> usize
     requires { buckets ≤ bucket_limit }
     ensures { result ≡ grown_length buckets }
 {
-    if 2 * buckets <= 8 {
-        return 8;
-    }
-    2 * buckets
+    (2 * buckets).max(8)
 }
 
 fn has_room_to_grow(st: State) -> bool
     requires { st.buckets ≤ bucket_limit }
     ensures { result ≡ room_to_grow st }
 {
-    let buckets = st.buckets;
-    buckets + grown_length(buckets) <= st.words / 2
+    st.buckets + grown_length(st.buckets) <= st.words / 2
 }
 
 // Saturated and without room to grow: no new key can be entered.
@@ -76,10 +72,7 @@ fn is_crowded(st: State) -> bool
     requires { (st.keys ≤ st.buckets) × (st.buckets ≤ bucket_limit) }
     ensures { result ≡ is_crowded st }
 {
-    if is_saturated(st) {
-        return !has_room_to_grow(st);
-    }
-    false
+    is_saturated(st) && !has_room_to_grow(st)
 }
 
 // The state with the grown table at the other end.
@@ -87,10 +80,11 @@ fn grown_state(st: State) -> State
     requires { st.buckets ≤ bucket_limit }
     ensures { result ≡ grown_state st }
 {
-    let mut next = st;
-    next.buckets = grown_length(st.buckets);
-    next.back = !st.back;
-    next
+    State {
+        buckets: grown_length(st.buckets),
+        back: !st.back,
+        ..st
+    }
 }
 
 // Grows the table where it is saturated and has room to grow.
@@ -117,11 +111,12 @@ fn grow_table(st: State, table: &mut [u32]) -> State
 fn moved_state(st: State, keys: usize, key_arena: Arena, list_arena: Arena) -> State
     ensures { result ≡ moved_state st keys key_arena list_arena }
 {
-    let mut next = st;
-    next.keys = keys;
-    next.key_arena = key_arena;
-    next.list_arena = list_arena;
-    next
+    State {
+        keys,
+        key_arena,
+        list_arena,
+        ..st
+    }
 }
 
 // Writes what an append to a standing lane has planned: the list, its header, the table where it grows.
@@ -185,26 +180,25 @@ fn write_new(
     lists: &mut [u8],
     name: &[u8],
     bytes: &[u8],
-    at: u32,
-    key_arena: Arena,
+    room: Room,
     hash: u32,
     looked: usize,
 ) -> Appended
     requires planned { Planned st (lent table.old keys.old lists.old) fresh bytes.now }
     requires carried { Carried st (lent table.old keys.old lists.old) name.now hash looked
         × (is_crowded st ≡ false) }
-    requires name_len_bound { (length name.now ≤ name_limit) × (at + (length name.now + 18) ≤ length keys.old) }
+    requires name_len_bound { (length name.now ≤ name_limit) × (room.at + (length name.now + 18) ≤ length keys.old) }
     ensures { out result (lent table.new keys.new lists.new)
         ≡ new_written (appended bytes.now (writing lists.old st.list_arena fresh)) st
-        (lent table.old keys.old lists.old) name.now at key_arena }
+        (lent table.old keys.old lists.old) name.now room.at room.after }
 {
     let arena = st.list_arena;
     let h = expull_header::fresh_header();
     let list = expull_append::extend_from_slice(lists, arena, h, bytes);
-    records::put_record(keys, at as usize, name, list.header);
+    records::put_record(keys, room.at as usize, name, list.header);
     let grown = grow_table(st, table);
-    enter_new(st.buckets, grown, table, at, hash, looked);
-    Appended::Accepted(moved_state(grown, st.keys + 1, key_arena, list.arena))
+    enter_new(st.buckets, grown, table, room.at, hash, looked);
+    Appended::Accepted(moved_state(grown, st.keys + 1, room.after, list.arena))
 }
 
 // Enters a new record in the table: as long as it has the buckets of before, in the empty one that the lookup met. One
@@ -243,19 +237,15 @@ fn append_new(
     if is_crowded(st) {
         return Appended::Declined(st, 5);
     }
-    let arena = st.key_arena;
-    let room = memory_arena::find_room(arena, keys.len(), name.len() + limits::RECORD_EXTRA);
-    let Allocated::At(at, key_arena) = room else {
+    let n = name.len() + limits::RECORD_EXTRA;
+    let Some(room) = st.key_arena.find_room(keys.len(), n) else {
         return Appended::Declined(st, 6);
     };
-    let lists_arena = st.list_arena;
     let h = expull_header::fresh_header();
-    if !expull_append::blocks_fit(lists_arena, lists.len(), h, bytes.len()) {
+    if !expull_append::blocks_fit(st.list_arena, lists.len(), h, bytes.len()) {
         return Appended::Declined(st, 7);
     }
-    write_new(
-        st, table, keys, lists, name, bytes, at, key_arena, hash, looked,
-    )
+    write_new(st, table, keys, lists, name, bytes, room, hash, looked)
 }
 
 // After a lap without an empty bucket: damage, unless the table is saturated.

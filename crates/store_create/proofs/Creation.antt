@@ -15,7 +15,8 @@ use Rattle.memory_arena.specs.Calls.{sensible}
 use Rattle.memory_arena.proofs.Laws.{sensible_made, standing_made}
 use Rattle.shared_arena_hashmap.specs.Power.{rounded_down}
 use Rattle.shared_arena_hashmap.specs.Buckets.{cleared}
-use Rattle.store_create.specs.declared.Created.TheVariants.{Made, Barred}
+use Rattle.std.specs.Prelude.{Ok, Err}
+use Rattle.limits.specs.declared.Refusal.TheVariants.{NotCreatable}
 use Rattle.store_create.specs.Create.{out, creatable, unused, fresh_state, create_of}
 use Rattle.store_state.specs.State.{lent_buckets, words_taken}
 
@@ -71,13 +72,13 @@ unused-sensible s len t e =
 pub create_made : (capacity seed size : ℕ) (table : List ℕ) (key_bytes list_bytes : ℕ)
     → creatable capacity size (length table) key_bytes list_bytes ≡ true
     → create_of capacity seed size table key_bytes list_bytes
-    ≡ out (Made (fresh_state seed size (length table) key_bytes list_bytes (rounded_down capacity)))
+    ≡ out (Ok (fresh_state seed size (length table) key_bytes list_bytes (rounded_down capacity)))
     (cleared 0 (rounded_down capacity) table)
 unfolding create_of
 create_made c s z t k l e = rw e
 
 pub create_barred : (capacity seed size : ℕ) (table : List ℕ) (key_bytes list_bytes : ℕ)
     → creatable capacity size (length table) key_bytes list_bytes ≡ false
-    → create_of capacity seed size table key_bytes list_bytes ≡ out (Barred 1) table
+    → create_of capacity seed size table key_bytes list_bytes ≡ out (Err NotCreatable) table
 unfolding create_of
 create_barred c s z t k l e = rw e

@@ -2,16 +2,20 @@
 -- many empty buckets at the front of the lent table, nothing else." Refusal 1: capacity 0; an arena of length 0 or
 -- too long; table words odd, too many, or under twice the rounded capacity. Document 02, Nine: "Page size becomes a
 -- setting at creation, 65,536 to 1,048,576 bytes, powers of two only, else refusal 1."
-use Rattle.std.specs.Prelude.{ℕ, Bool, false, cond, ◌&&◌, List, leb, ltb, length}
+use Rattle.std.specs.Prelude.{ℕ, Bool, false, cond, ◌&&◌, List, leb, ltb, length, Result, Ok, Err}
 use Rattle.limits.specs.Limits.{page_taken, arena_limit_for}
 use Rattle.memory_arena.specs.declared.Arena.{Arena}
 use Rattle.memory_arena.specs.Pages.{lendable}
 use Rattle.shared_arena_hashmap.specs.Power.{rounded_down}
 use Rattle.shared_arena_hashmap.specs.Buckets.{cleared}
 use Rattle.store_state.specs.declared.State.{State}
-use Rattle.store_create.specs.declared.Created.{Created}
-use Rattle.store_create.specs.declared.Created.TheVariants.{Made, Barred}
+use Rattle.limits.specs.declared.Refusal.{Refusal}
+use Rattle.limits.specs.declared.Refusal.TheVariants.{NotCreatable}
 use Rattle.store_state.specs.State.{lent_buckets, words_taken}
+
+-- RULES C3. A fresh state, or why there is none.
+abbrev pub Created : Type 0
+Created = Result State Refusal
 
 -- RULES C3. The answer, and the lent table as the call leaves it.
 pub record Out : Type 0 where
@@ -55,6 +59,6 @@ unfoldable pub create_of : ℕ → ℕ → ℕ → List ℕ → ℕ → ℕ → 
 unfolding creatable cleared
 create_of capacity seed size table key_bytes list_bytes =
     cond (creatable capacity size (length table) key_bytes list_bytes)
-    (out (Made (fresh_state seed size (length table) key_bytes list_bytes (rounded_down capacity)))
+    (out (Ok (fresh_state seed size (length table) key_bytes list_bytes (rounded_down capacity)))
     (cleared 0 (rounded_down capacity) table))
-    (out (Barred 1) table)
+    (out (Err NotCreatable) table)

@@ -12,21 +12,15 @@ ghost use Rattle.memory_arena.specs.Pages.{lendable};
 ghost use Rattle.store_create.specs.Said.{said_created};
 ghost use Rattle.store_create.specs.Create.{out, creatable, fresh_state, create_of};
 
+use limits::Refusal;
 use memory_arena::Arena;
 use store_state::State;
-
-// A creation's answer.
-#[derive(Clone, Copy)]
-pub enum Created {
-    Made(State),
-    Barred(u32),
-}
 
 fn is_lendable(size: usize, len: usize) -> bool
     requires { page_taken size ≡ true }
     ensures { result ≡ lendable (arena_limit_for size) len }
 {
-    (0 < len) & (len <= limits::ADDRESSES - size)
+    0 < len && len <= limits::ADDRESSES - size
 }
 
 // What creation takes. The rounded capacity is compared with the lent buckets, never doubled: it may be 2^63. Public
@@ -40,14 +34,12 @@ pub fn is_creatable(
 ) -> bool
     ensures { result ≡ creatable capacity size words key_bytes list_bytes }
 {
-    if !memory_arena::is_page_size(size) {
-        return false;
-    }
-    let rounded = shared_arena_hashmap::compute_previous_power_of_two(capacity);
-    let a = is_lendable(size, key_bytes);
-    let b = is_lendable(size, list_bytes);
-    let c = store_state::is_taken(words);
-    (0 < capacity) & (a & (b & (c & (rounded <= words / 2))))
+    memory_arena::is_page_size(size)
+        && 0 < capacity
+        && is_lendable(size, key_bytes)
+        && is_lendable(size, list_bytes)
+        && store_state::is_taken(words)
+        && shared_arena_hashmap::compute_previous_power_of_two(capacity) <= words / 2
 }
 
 fn fresh_state(
@@ -87,7 +79,7 @@ pub fn create(
     table: &mut [u32],
     keys: &[u8],
     lists: &[u8],
-) -> Created
+) -> Result<State, Refusal>
     ensures settled { out result table.new
         ≡ create_of capacity seed size table.old (length keys.now)
         (length lists.now) }
@@ -96,10 +88,10 @@ pub fn create(
     let words = table.len();
     let key_bytes = keys.len();
     let list_bytes = lists.len();
-    if is_creatable(capacity, size, words, key_bytes, list_bytes) {
-        let buckets = shared_arena_hashmap::compute_previous_power_of_two(capacity);
-        shared_arena_hashmap::grow::clear(table, 0, buckets);
-        return Created::Made(fresh_state(seed, size, words, key_bytes, list_bytes, buckets));
+    if !is_creatable(capacity, size, words, key_bytes, list_bytes) {
+        return Err(Refusal::NotCreatable);
     }
-    Created::Barred(1)
+    let buckets = shared_arena_hashmap::compute_previous_power_of_two(capacity);
+    shared_arena_hashmap::grow::clear(table, 0, buckets);
+    Ok(fresh_state(seed, size, words, key_bytes, list_bytes, buckets))
 }

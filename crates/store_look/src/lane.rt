@@ -275,7 +275,7 @@ pub fn show_block<'a>(
     if !store_state::is_whole_state(st, table.len(), keys.len(), lists.len()) {
         return &lists[0..0];
     }
-    if !memory_arena::is_good_span(arena, at, n) {
+    if !arena.is_good_span(at, n) {
         return &lists[0..0];
     }
     let from = at as usize;

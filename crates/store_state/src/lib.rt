@@ -41,76 +41,64 @@ pub fn first_bucket(st: State) -> usize
     requires { st.buckets ≤ st.words / 2 }
     ensures { result ≡ first_of st }
 {
-    let back = st.back;
-    if back {
-        return st.words / 2 - st.buckets;
+    if st.back {
+        st.words / 2 - st.buckets
+    } else {
+        0
     }
-    0
 }
 
 // Bytes of the longest name that the store takes: a longer one's record exceeds a page, or its length two bytes.
 pub fn name_limit(st: State) -> usize
     ensures { result ≡ name_limit_of st }
 {
-    let arena = st.key_arena;
-    let size = arena.size;
-    if size < limits::RECORD_EXTRA {
-        return 0;
-    }
-    if size < limits::NAME_LIMIT + limits::RECORD_EXTRA {
-        return size - limits::RECORD_EXTRA;
-    }
-    limits::NAME_LIMIT
+    let room = st.key_arena.size.saturating_sub(limits::RECORD_EXTRA);
+    room.min(limits::NAME_LIMIT)
 }
 
 // The guard of names, which every call by name asks before it looks anything up.
 pub fn name_kind(st: State, n: usize) -> Name
     ensures { result ≡ name_kind st n }
 {
-    let limit = name_limit(st);
-    let is_too_long = limit < n;
+    let is_too_long = name_limit(st) < n;
     if is_too_long {
-        return Name::TooLong;
+        Name::TooLong
+    } else if n == 0 {
+        Name::Nameless
+    } else {
+        Name::Proper
     }
-    if n == 0 {
-        return Name::Nameless;
-    }
-    Name::Proper
 }
 
 // Table words such as creation takes.
 pub fn is_taken(words: usize) -> bool
     ensures { result ≡ words_taken words }
 {
-    (words % 2 == 0) & (words <= limits::WORD_LIMIT)
+    words % 2 == 0 && words <= limits::WORD_LIMIT
 }
 
 fn are_lengths_equal(st: State, words: usize, key_bytes: usize, list_bytes: usize) -> bool
     ensures { result ≡ lengths_equal st words key_bytes list_bytes }
 {
-    (st.words == words) & (st.key_bytes == key_bytes) & (st.list_bytes == list_bytes)
+    st.words == words && st.key_bytes == key_bytes && st.list_bytes == list_bytes
 }
 
 fn does_table_fit(st: State, words: usize) -> bool
     ensures { result ≡ table_fits st words }
 {
-    let buckets = st.buckets;
-    let is_power = shared_arena_hashmap::is_power_of_two(buckets);
-    is_power & (buckets <= words / 2) & (st.keys <= buckets)
+    shared_arena_hashmap::is_power_of_two(st.buckets)
+        && st.buckets <= words / 2
+        && st.keys <= st.buckets
 }
 
 // The check that comes first in each store call.
 pub fn is_whole_state(st: State, words: usize, key_bytes: usize, list_bytes: usize) -> bool
     ensures { result ≡ whole_state st words key_bytes list_bytes }
 {
-    let keys = st.key_arena;
-    let lists = st.list_arena;
-    let key_size = keys.size;
-    let list_size = lists.size;
-    let a = are_lengths_equal(st, words, key_bytes, list_bytes);
-    let b = is_taken(words);
-    let c = does_table_fit(st, words);
-    let d = memory_arena::is_sensible(keys, key_bytes);
-    let e = memory_arena::is_sensible(lists, list_bytes);
-    a & (b & (c & ((key_size == list_size) & (d & e))))
+    are_lengths_equal(st, words, key_bytes, list_bytes)
+        && is_taken(words)
+        && does_table_fit(st, words)
+        && st.key_arena.size == st.list_arena.size
+        && st.key_arena.is_sensible(key_bytes)
+        && st.list_arena.is_sensible(list_bytes)
 }

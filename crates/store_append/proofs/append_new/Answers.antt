@@ -5,9 +5,9 @@ use mathlib.Core.Option.{none}
 use mathlib.Core.Path.{◌≡◌, refl, sym, ap, subst, ◌∙◌}
 use native.Mathlib.Omega.{arith}
 use lib.ListN.{length}
-use Rattle.store_append.proofs.Cases.{new_5, new-room, new_6_told, new-at, new_7, plan_none}
+use Rattle.store_append.proofs.Cases.{new_5, new-room, new_6, new-at, new_7, plan_none}
 use Rattle.store_state.proofs.Whole.{Whole, whole_facts, buckets_few}
-use Rattle.memory_arena.specs.declared.Allocated.TheVariants.{At}
+use Rattle.memory_arena.specs.Pages.{room_at}
 use Rattle.store_append.specs.Append.{is_crowded, on_key_room, append_new}
 use Rattle.store_look.specs.Look.{lent}
 use Rattle.expull_append.specs.Append.{writing, is_some, plan_of, good_tail}
@@ -15,9 +15,8 @@ use Rattle.expull_header.specs.Header.{fresh, sound_header}
 use Rattle.expull_header.specs.declared.Header.{Header}
 use Rattle.memory_arena.proofs.Laws.{sensible_facts, room_in}
 use Rattle.limits.specs.Limits.{name_limit, record_extra, record-fits, name-within}
-use borrow.Enum.Refused.{opened}
 use Rattle.store_append.proofs.append_new.Goals as goal
-use Rattle.store_append.proofs.append_new.Goals.{After-blocks_fit, Else-is_crowded, In-At, Start}
+use Rattle.store_append.proofs.append_new.Goals.{After-blocks_fit, Else-is_crowded, In-Some, Start}
 
 -- the whole-state check, clause by clause
 whole : (c : Start) → Whole c.args.st (length c.args.table.now) (length c.args.keys.now) (length c.args.lists.now)
@@ -34,13 +33,13 @@ roomy : (c : Else-is_crowded) → is_crowded c.args.st ≡ false
 roomy c = sym c.is_crowded.ensures ∙ c.if-is_crowded.false
 
 -- the key pages have given room
-at_room : (c : In-At) → append_new c.args.st (lent c.args.table.now c.args.keys.now c.args.lists.now)
-    c.args.name.now c.args.bytes.now ≡ on_key_room (At c.in-At.at c.in-At.key_arena) c.args.st (lent
+at_room : (c : In-Some) → append_new c.args.st (lent c.args.table.now c.args.keys.now c.args.lists.now)
+    c.args.name.now c.args.bytes.now ≡ on_key_room (room_at c.in-Some.room.at c.in-Some.room.after) c.args.st (lent
     c.args.table.now c.args.keys.now c.args.lists.now) c.args.name.now c.args.bytes.now
 at_room c =
     new-room c.args.st (lent c.args.table.now c.args.keys.now c.args.lists.now) c.args.name.now c.args.bytes.now
     (let it : is_crowded c.args.st ≡ false = sym c.is_crowded.ensures ∙ c.if-is_crowded.false in it) _ (sym
-    c.find_room-room.ensures ∙ c.in-At.is)
+    c.find_room.ensures ∙ c.in-Some.is)
 
 -- the dry run of a fresh list
 fit_is : (c : After-blocks_fit) → c.blocks_fit.result ≡ is_some (plan_of (length c.args.lists.now)
@@ -58,20 +57,20 @@ returns-then-is_crowded c =
     sym (new_5 c.args.st (lent c.args.table.now c.args.keys.now c.args.lists.now) c.args.name.now c.args.bytes.now
     (sym c.is_crowded.ensures ∙ c.if-is_crowded.true))
 
-pub overflow_add-name : goal.overflow_add-name
-overflow_add-name c = omega (arith, short (goal.at.overflow_add-name c).Start)
+pub overflow_add-n : goal.overflow_add-n
+overflow_add-n c = omega (arith, short (goal.at.overflow_add-n c).Start)
 
-pub find_room-room-requires : goal.find_room-room-requires
-find_room-room-requires c = (
+pub find_room-requires : goal.find_room-requires
+find_room-requires c = (
   omega arith,
   (
     omega (
       arith,
       c.requires.lists_value.1,
       record-fits c.args.st.key_arena.size (sensible_facts _
-          _ (whole (goal.at.find_room-room-requires c).Start).key_arena).sized,
+          _ (whole (goal.at.find_room-requires c).Start).key_arena).sized,
     ),
-    (whole (goal.at.find_room-room-requires
+    (whole (goal.at.find_room-requires
         c).Start).key_arena,
   ),
 )
@@ -79,8 +78,8 @@ find_room-room-requires c = (
 pub returns-in_default : goal.returns-in_default
 returns-in_default c =
     let m = lent c.args.table.now c.args.keys.now c.args.lists.now in sym (new-room c.args.st m c.args.name.now
-    c.args.bytes.now (roomy (goal.at.returns-in_default c).Else-is_crowded) _ (sym c.find_room-room.ensures) ∙
-    new_6_told c.args.st m c.args.name.now c.args.bytes.now _ (opened c.in_default.in_default-own.keys2))
+    c.args.bytes.now (roomy (goal.at.returns-in_default c).Else-is_crowded) _ (sym c.find_room.ensures ∙ c.in_default.is) ∙
+    new_6 c.args.st m c.args.name.now c.args.bytes.now)
 
 pub blocks_fit-requires : goal.blocks_fit-requires
 blocks_fit-requires c = (
@@ -94,7 +93,7 @@ returns-then-not-blocks_fit c =
     let m = lent c.args.table.now c.args.keys.now c.args.lists.now in
     let n = plan_none c.args.bytes.now (writing c.args.lists.now c.args.st.list_arena fresh) (sym (fit_is
     (goal.at.returns-then-not-blocks_fit c).After-blocks_fit) ∙ c.if-not-blocks_fit.true) in sym (at_room
-    (goal.at.returns-then-not-blocks_fit c).In-At ∙ new-at c.args.st m c.args.name.now c.args.bytes.now _ _ none n ∙
+    (goal.at.returns-then-not-blocks_fit c).In-Some ∙ new-at c.args.st m c.args.name.now c.args.bytes.now _ _ none n ∙
     new_7 c.args.st m c.args.name.now c.args.bytes.now _ _)
 
 pub write_new-requires : goal.write_new-requires
@@ -102,7 +101,7 @@ unfolding sound_header good_tail
 write_new-requires c =
     let r = room_in c.args.st.key_arena (length c.args.keys.now) (length c.args.name.now + record_extra) _ _ (omega
     arith) (sensible_facts _ _ (whole (goal.at.write_new-requires c).Start).key_arena).stands (sym
-    c.find_room-room.ensures ∙ c.in-At.is) in record {
+    c.find_room.ensures ∙ c.in-Some.is) in record {
       planned = record {
         whole = c.requires.lists_value.0;
         sound =
@@ -122,4 +121,4 @@ write_new-requires c =
 pub returns : goal.returns
 returns c =
     let m = lent c.args.table.now c.args.keys.now c.args.lists.now in c.write_new.ensures ∙ sym (at_room
-    (goal.at.returns c).In-At ∙ new-at c.args.st m c.args.name.now c.args.bytes.now _ _ _ refl)
+    (goal.at.returns c).In-Some ∙ new-at c.args.st m c.args.name.now c.args.bytes.now _ _ _ refl)

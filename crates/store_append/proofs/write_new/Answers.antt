@@ -1,7 +1,6 @@
 -- What each part left, put together. Assumes nothing.
 use Prim.Native.Nat.{◌+◌, ◌/◌, ◌≤◌, ◌<◌}
 use mathlib.Core.Bool.{true}
-use mathlib.Core.Option.{some}
 use mathlib.Core.Path.{◌≡◌, refl, sym, ap, subst, ◌∙◌}
 use native.Mathlib.Omega.{arith}
 use lib.ListN.{length}
@@ -75,11 +74,11 @@ shape_of-lists c = c.extend_from_slice-list.auto.lists
 pub returns : goal.returns
 returns c =
     new_done c.args.st (lent c.args.table.now c.args.keys.now c.args.lists.now) c.args.name.now c.args.bytes.now
-    c.args.at c.args.key_arena _ (writing c.extend_from_slice-list.new.lists c.extend_from_slice-list.result.arena
+    c.args.room.at c.args.room.after _ (writing c.extend_from_slice-list.new.lists c.extend_from_slice-list.result.arena
     c.extend_from_slice-list.result.header) (c.extend_from_slice-list.ensures ∙ ap (λ (h : Header). appended
     c.args.bytes.now (writing c.args.lists.now c.args.st.list_arena h)) c.fresh_header-h.ensures)
     c.moved_state.result _ _ _ (c.moved_state.ensures ∙ ap (λ (s : State).
-    moved_state s (c.args.st.keys + 1) c.args.key_arena
+    moved_state s (c.args.st.keys + 1) c.args.room.after
     c.extend_from_slice-list.result.arena) c.grow_table-grown.ensures.0) (c.enter_new.ensures ∙ (λ i. entered
-    (first_of (c.grow_table-grown.ensures.0 i)) (c.grow_table-grown.ensures.0 i).buckets c.args.at
+    (first_of (c.grow_table-grown.ensures.0 i)) (c.grow_table-grown.ensures.0 i).buckets c.args.room.at
     (c.requires.carried.0.hashed i) (c.grow_table-grown.ensures.1 i))) c.put_record.ensures refl

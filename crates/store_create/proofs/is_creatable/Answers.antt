@@ -1,30 +1,51 @@
--- The parts of the test, one by one. Assumes nothing.
-use Prim.Native.Nat.{◌/◌}
-use mathlib.Core.Bool.{true, ◌&&◌}
-use mathlib.Core.Path.{◌≡◌, sym, ◌∙◌}
-use lib.Dec.{leb, ltb}
-use Rattle.limits.specs.Limits.{page_taken}
+-- The parts of the test, joined one by one. Assumes nothing.
+use Rattle.std.proofs.Common.{◌≡◌, ◌&&◌, arith}
+use Rattle.std.proofs.lemmas.Bool.Decides.{nat_tests}
+use lib.Dec.{ltb}
+use Rattle.limits.specs.Limits.{page_taken, arena_limit_for}
+use Rattle.memory_arena.specs.Pages.{lendable}
+use Rattle.store_state.specs.State.{words_taken}
 use Rattle.store_create.specs.Create.{creatable}
 use Rattle.store_create.proofs.is_creatable.Goals as goal
-use Rattle.store_create.proofs.is_creatable.Goals.{Else-not-is_page_size}
+use Rattle.store_create.proofs.is_creatable.Goals.{Joined-is_lendable-2, then-is_page_size, else-is_page_size}
+use Rattle.store_create.proofs.is_creatable.Goals.{then-capacity-gt0, else-capacity-gt0, then-is_lendable}
+use Rattle.store_create.proofs.is_creatable.Goals.{else-is_lendable, then-is_lendable-2, else-is_lendable-2}
 
--- the size is one that creation takes
-sized : (c : Else-not-is_page_size) → page_taken c.args.size ≡ true
-sized c = sym c.is_page_size.ensures ∙ c.if-not-is_page_size.false
+-- all but the last
+tested : (c : Joined-is_lendable-2) → c.if-is_lendable-2.value
+    ≡ (page_taken c.args.size && ltb 0 c.args.capacity && lendable (arena_limit_for c.args.size) c.args.key_bytes
+    && lendable (arena_limit_for c.args.size) c.args.list_bytes && words_taken c.args.words)
+tested c =
+    let keys : c.if-capacity-gt0.value
+    ≡ (page_taken c.args.size && ltb 0 c.args.capacity && lendable (arena_limit_for c.args.size) c.args.key_bytes) =
+    elim c.if-is_page_size.branch [
+      | then-is_page_size u ↦ elim c.if-capacity-gt0.branch [
+        | then-capacity-gt0 v ↦ grind (arith, nat_tests)
+        | else-capacity-gt0 v ↦ grind (arith, nat_tests)
+      ]
+      | else-is_page_size u ↦ elim c.if-capacity-gt0.branch [
+        | then-capacity-gt0 v ↦ grind (arith, nat_tests)
+        | else-capacity-gt0 v ↦ grind (arith, nat_tests)
+      ]
+    ] in
+    let lists : c.if-is_lendable.value
+    ≡ (page_taken c.args.size && ltb 0 c.args.capacity && lendable (arena_limit_for c.args.size) c.args.key_bytes
+    && lendable (arena_limit_for c.args.size) c.args.list_bytes) =
+    elim c.if-is_lendable.branch [
+      | then-is_lendable u ↦ grind (arith, nat_tests)
+      | else-is_lendable u ↦ grind (arith, nat_tests)
+    ] in
+    elim c.if-is_lendable-2.branch [
+      | then-is_lendable-2 u ↦ grind (arith, nat_tests)
+      | else-is_lendable-2 u ↦ grind (arith, nat_tests)
+    ]
 
-pub returns-then-not-is_page_size : goal.returns-then-not-is_page_size
+pub returns-then-is_taken : goal.returns-then-is_taken
 unfolding creatable
-returns-then-not-is_page_size c = rw (sym c.is_page_size.ensures ∙ c.if-not-is_page_size.true)
+returns-then-is_taken c =
+    let e = tested (goal.at.returns-then-is_taken c).Joined-is_lendable-2 in grind (arith, nat_tests)
 
-pub is_lendable-a-requires : goal.is_lendable-a-requires
-is_lendable-a-requires c = sized (goal.at.is_lendable-a-requires c).Else-not-is_page_size
-
-pub is_lendable-b-requires : goal.is_lendable-b-requires
-is_lendable-b-requires c = sized (goal.at.is_lendable-b-requires c).Else-not-is_page_size
-
-pub returns : goal.returns
+pub returns-else-is_taken : goal.returns-else-is_taken
 unfolding creatable
-returns c =
-    (λ i. ltb 0 c.args.capacity && (c.is_lendable-a.ensures i && (c.is_lendable-b.ensures i && (c.is_taken-c.ensures
-    i && leb (c.compute_previous_power_of_two-rounded.ensures i) (c.args.words / 2))))) ∙ rw (sized (goal.at.returns
-    c).Else-not-is_page_size)
+returns-else-is_taken c =
+    let e = tested (goal.at.returns-else-is_taken c).Joined-is_lendable-2 in grind (arith, nat_tests)

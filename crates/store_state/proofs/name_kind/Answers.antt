@@ -1,22 +1,17 @@
 -- The two tests, in their order. Assumes nothing.
-use Prim.Native.Nat.{ℕ, ◌<◌}
-use mathlib.Core.Path.{sym, subst}
-use native.Mathlib.Omega.{arith}
-use Rattle.store_state.proofs.Guard.{kind-long, kind-nameless, kind_proper}
+use Rattle.std.proofs.Common.{arith}
+use Rattle.std.proofs.lemmas.Bool.Decides.{nat_tests}
+use Rattle.store_state.specs.Name.{name_kind}
 use Rattle.store_state.proofs.name_kind.Goals as goal
 
 pub returns-then-is_too_long : goal.returns-then-is_too_long
-returns-then-is_too_long c =
-    sym (kind-long c.args.st c.args.n (subst (λ (k : ℕ). k < c.args.n) c.name_limit-limit.ensures
-    c.if-is_too_long.true))
+unfolding name_kind
+returns-then-is_too_long c = grind (arith, nat_tests)
 
 pub returns-then-n-eq0 : goal.returns-then-n-eq0
-returns-then-n-eq0 c = sym (kind-nameless c.args.st c.args.n (omega arith))
+unfolding name_kind
+returns-then-n-eq0 c = grind (arith, nat_tests)
 
-pub returns : goal.returns
-returns c =
-    sym (kind_proper c.args.st c.args.n (omega arith) (omega (
-      arith,
-      c.name_limit-limit.ensures,
-      c.if-is_too_long.false,
-    )))
+pub returns-else-n-eq0 : goal.returns-else-n-eq0
+unfolding name_kind
+returns-else-n-eq0 c = grind (arith, nat_tests)
