@@ -30,14 +30,14 @@ same c = reading-length c.loop-i.invariant
 with_link : (c : After-get_block_size-size) → c.loop-i.place + (c.get_block_size-size.result + link_size) ≤ length
     c.args.lists.now
 with_link c =
-    (reading-piece (let it : Readable c.args.arena c.args.lists.now c.args.h (length c.args.output.now) = record {
+    (reading-piece (record {
       sense = c.requires.0;
       sound = c.requires.1.0;
       blocks = c.requires.1.1.0;
       some_blocks =
           c.if-h-eq-FIRST_BLOCK_NUM.false;
       space = c.requires.1.1.1;
-    } in it) c.loop-i.invariant (omega (
+    }) c.loop-i.invariant (omega (
       arith,
       c.loop-i-test.true,
     )) c.get_block_size-size.ensures.0).1.0
@@ -45,14 +45,14 @@ with_link c =
 piece : (c : After-get_block_size-size) → Piece c.args.lists.now c.loop-i.output c.loop-i.place c.loop-i.at
     c.get_block_size-size.result
 piece c =
-    (reading-piece (let it : Readable c.args.arena c.args.lists.now c.args.h (length c.args.output.now) = record {
+    (reading-piece (record {
       sense = c.requires.0;
       sound = c.requires.1.0;
       blocks = c.requires.1.1.0;
       some_blocks =
           c.if-h-eq-FIRST_BLOCK_NUM.false;
       space = c.requires.1.1.1;
-    } in it) c.loop-i.invariant (omega (
+    }) c.loop-i.invariant (omega (
       arith,
       c.loop-i-test.true,
     )) c.get_block_size-size.ensures.0).1.1
@@ -60,14 +60,14 @@ piece c =
 tail : (c : After-get_block_size-size-2) → Piece c.args.lists.now c.loop-i.output c.loop-i.place c.loop-i.at
     (c.get_block_size-size-2.result - c.args.h.remaining)
 tail c =
-    reading_last (let it : Readable c.args.arena c.args.lists.now c.args.h (length c.args.output.now) = record {
+    reading_last (record {
       sense = c.requires.0;
       sound = c.requires.1.0;
       blocks = c.requires.1.1.0;
       some_blocks =
           c.if-h-eq-FIRST_BLOCK_NUM.false;
       space = c.requires.1.1.1;
-    } in it) c.loop-i.invariant (omega (
+    }) c.loop-i.invariant (omega (
       arith,
       c.loop-i-test.false,
     )) (ap (λ (n : ℕ). n - c.args.h.remaining) c.get_block_size-size-2.ensures.0)
