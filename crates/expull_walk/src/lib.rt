@@ -11,58 +11,53 @@ ghost use Rattle.spans.specs.Span.{overwrite};
 ghost use Rattle.memory_arena.specs.Calls.{sensible};
 ghost use Rattle.expull_header.specs.Header.{sound_header, lane_length, block_count};
 ghost use Rattle.expull_walk.specs.Blocks.{good_blocks, walk_of, lane_bytes, block_length, block_of};
+ghost use Rattle.expull_walk.specs.Blocks.{place_of};
 
 use expull_header::Header;
+use limits::Refusal;
 use memory_arena::Arena;
 
-// A block's place and length; past the last; or one on the way that isn't a good span.
+// A block's place, and its length as far as it is written.
 #[derive(Clone, Copy)]
-pub enum Block {
-    BlockAt(u32, u32),
-    NoBlock,
-    BadBlock,
+pub struct Block {
+    pub at: u32,
+    pub length: u32,
 }
 
-// Where a walk along the blocks has come to, or that it met one that isn't a good span.
-#[derive(Clone, Copy)]
-pub enum Walked {
-    To(u32),
-    Stopped,
-}
-
-// Walks along n blocks. It goes by the count alone, so a chain that comes back to itself ends too.
-fn walk(lists: &[u8], arena: Arena, head: u32, n: u32) -> Walked
+// Walks along n blocks: where the next one is; none where one on the way isn't a good span. It goes by the count alone,
+// so a chain that comes back to itself ends too.
+fn walk(lists: &[u8], arena: Arena, head: u32, n: u32) -> Option<u32>
     requires { (sensible arena (length lists.now) ≡ true) × (n ≤ number_limit) }
     ensures { result ≡ walk_of arena lists.now head n }
 {
     let mut place = head;
-    let mut i = 0;
-    while i < n {
+    for i in 0..n {
         let size = expull_header::get_block_size(i + 3) as usize;
         if !memory_arena::is_good_span(arena, place, size + limits::LINK) {
-            return Walked::Stopped;
+            return None;
         }
         place = spans::get_u32(lists, place as usize + size);
-        i += 1;
     }
-    Walked::To(place)
+    Some(place)
 }
 
-// Whether the first n blocks of a list, bytes and link, are good spans. The last one's link isn't read: it leads to no
-// block that is asked about, and lies far behind the bytes that are written, where nothing has been touched yet.
+// The place of block i, where it and those before it are good spans, bytes and link. Its own link isn't read: it leads
+// to no block that is asked about, and lies far behind the bytes that are written, where nothing has been touched yet.
+fn find_place(lists: &[u8], arena: Arena, head: u32, i: u32) -> Option<u32>
+    requires { (sensible arena (length lists.now) ≡ true) × (i < number_limit) }
+    ensures { result ≡ place_of arena lists.now head i }
+{
+    let place = walk(lists, arena, head, i)?;
+    let size = expull_header::get_block_size(i + 3) as usize;
+    memory_arena::is_good_span(arena, place, size + limits::LINK).then_some(place)
+}
+
+// Whether the first n blocks of a list, bytes and link, are good spans.
 pub fn are_good_blocks(lists: &[u8], arena: Arena, head: u32, n: u32) -> bool
     requires { (sensible arena (length lists.now) ≡ true) × (n ≤ number_limit) }
     ensures { result ≡ good_blocks arena lists.now head n }
 {
-    if n == 0 {
-        return true;
-    }
-    let last = n - 1;
-    let Walked::To(place) = walk(lists, arena, head, last) else {
-        return false;
-    };
-    let size = expull_header::get_block_size(last + 3) as usize;
-    memory_arena::is_good_span(arena, place, size + limits::LINK)
+    n == 0 || find_place(lists, arena, head, n - 1).is_some()
 }
 
 // A reading: a lane's bytes to the front of the output.
@@ -78,15 +73,13 @@ pub fn read_to_end(lists: &[u8], arena: Arena, h: Header, output: &mut [u8])
     let last = h.number - 3;
     let mut place = h.head;
     let mut at = 0;
-    let mut i = 0;
-    while i < last {
+    for i in 0..last {
         let size = expull_header::get_block_size(i + 3) as usize;
         let from = place as usize;
         let to = from + size;
         fastcpy::copy_in(output, at, &lists[from..to]);
         place = spans::get_u32(lists, to);
         at += size;
-        i += 1;
     }
     let size = expull_header::get_block_size(h.number);
     let from = place as usize;
@@ -105,22 +98,24 @@ fn block_length(h: Header, i: u32) -> u32
     expull_header::get_block_size(i + 3)
 }
 
-// Finds block i of a list.
-pub fn find_block(lists: &[u8], arena: Arena, h: Header, index: usize) -> Block
+// Finds block i of a list; none past the last.
+pub fn find_block(
+    lists: &[u8],
+    arena: Arena,
+    h: Header,
+    index: usize,
+) -> Result<Option<Block>, Refusal>
     requires { (sensible arena (length lists.now) ≡ true) × (sound_header h 0 ≡ true) }
     ensures { result ≡ block_of arena lists.now h index }
 {
     let count = (h.number - limits::FIRST_BLOCK_NUM) as usize;
     if count <= index {
-        return Block::NoBlock;
+        return Ok(None);
     }
     let i = index as u32;
-    let Walked::To(place) = walk(lists, arena, h.head, i) else {
-        return Block::BadBlock;
-    };
-    let size = expull_header::get_block_size(i + 3) as usize;
-    if !memory_arena::is_good_span(arena, place, size + limits::LINK) {
-        return Block::BadBlock;
-    }
-    Block::BlockAt(place, block_length(h, i))
+    let at = find_place(lists, arena, h.head, i).ok_or(Refusal::Damaged)?;
+    Ok(Some(Block {
+        at,
+        length: block_length(h, i),
+    }))
 }

@@ -1,27 +1,16 @@
 -- `expull_walk::read_to_end` meets its contract. The loop's invariant: the first i blocks, full, stand at the front of
--- the output; its measure is how many are left. Assumes nothing.
+-- the output. Assumes nothing.
 use Rattle.limits.specs.Limits.{link_size}
 use Prim.Native.Nat.{ℕ, ◌-◌, ◌+◌, ◌≤◌}
-use mathlib.Core.Path.{◌≡◌, ap, ◌∙◌}
+use mathlib.Core.Path.{◌≡◌, ap}
 use native.Mathlib.Omega.{arith}
 use lib.ListN.{length}
 use Rattle.expull_header.proofs.Parts.{length_part}
-use Rattle.expull_walk.proofs.Loops.{reading-length, Readable, Piece, reading-begun, reading-piece}
+use Rattle.expull_walk.proofs.Loops.{reading-length, readable, Piece, reading-begun, reading-piece}
 use Rattle.expull_walk.proofs.Loops.{reading-next, reading_last, reading-end, reading_none}
 use Rattle.expull_header.proofs.Laws.{sound_facts}
 use Rattle.expull_walk.proofs.read_to_end.Goals as goal
 use Rattle.expull_walk.proofs.read_to_end.Goals.{After-get_block_size-size, After-get_block_size-size-2, At-loop-i}
-
-readable : (c : At-loop-i) → Readable c.args.arena c.args.lists.now c.args.h (length c.args.output.now)
-readable c =
-    record {
-      sense = c.requires.0;
-      sound = c.requires.1.0;
-      blocks = c.requires.1.1.0;
-      some_blocks =
-          c.if-h-eq-FIRST_BLOCK_NUM.false;
-      space = c.requires.1.1.1;
-    }
 
 -- the output keeps its length
 same : (c : At-loop-i) → length c.loop-i.output ≡ length c.args.output.now
@@ -30,14 +19,7 @@ same c = reading-length c.loop-i.invariant
 with_link : (c : After-get_block_size-size) → c.loop-i.place + (c.get_block_size-size.result + link_size) ≤ length
     c.args.lists.now
 with_link c =
-    (reading-piece (record {
-      sense = c.requires.0;
-      sound = c.requires.1.0;
-      blocks = c.requires.1.1.0;
-      some_blocks =
-          c.if-h-eq-FIRST_BLOCK_NUM.false;
-      space = c.requires.1.1.1;
-    }) c.loop-i.invariant (omega (
+    (reading-piece (readable c.requires c.if-h-eq-FIRST_BLOCK_NUM.false) c.loop-i.invariant (omega (
       arith,
       c.loop-i-test.true,
     )) c.get_block_size-size.ensures.0).1.0
@@ -45,14 +27,7 @@ with_link c =
 piece : (c : After-get_block_size-size) → Piece c.args.lists.now c.loop-i.output c.loop-i.place c.loop-i.at
     c.get_block_size-size.result
 piece c =
-    (reading-piece (record {
-      sense = c.requires.0;
-      sound = c.requires.1.0;
-      blocks = c.requires.1.1.0;
-      some_blocks =
-          c.if-h-eq-FIRST_BLOCK_NUM.false;
-      space = c.requires.1.1.1;
-    }) c.loop-i.invariant (omega (
+    (reading-piece (readable c.requires c.if-h-eq-FIRST_BLOCK_NUM.false) c.loop-i.invariant (omega (
       arith,
       c.loop-i-test.true,
     )) c.get_block_size-size.ensures.0).1.1
@@ -60,14 +35,7 @@ piece c =
 tail : (c : After-get_block_size-size-2) → Piece c.args.lists.now c.loop-i.output c.loop-i.place c.loop-i.at
     (c.get_block_size-size-2.result - c.args.h.remaining)
 tail c =
-    reading_last (record {
-      sense = c.requires.0;
-      sound = c.requires.1.0;
-      blocks = c.requires.1.1.0;
-      some_blocks =
-          c.if-h-eq-FIRST_BLOCK_NUM.false;
-      space = c.requires.1.1.1;
-    }) c.loop-i.invariant (omega (
+    reading_last (readable c.requires c.if-h-eq-FIRST_BLOCK_NUM.false) c.loop-i.invariant (omega (
       arith,
       c.loop-i-test.false,
     )) (ap (λ (n : ℕ). n - c.args.h.remaining) c.get_block_size-size-2.ensures.0)
@@ -82,14 +50,6 @@ overflow_sub-last c =
 
 pub loop-i-init : goal.loop-i-init
 loop-i-init c = reading-begun c.args.lists.now c.args.h c.args.output.now
-
-pub overflow_cast-from : goal.overflow_cast-from
-overflow_cast-from c =
-    omega (arith, (piece (goal.at.overflow_cast-from c).After-get_block_size-size).in_memory, c.well_formed.0)
-
-pub overflow_add-to : goal.overflow_add-to
-overflow_add-to c =
-    omega (arith, (piece (goal.at.overflow_add-to c).After-get_block_size-size).in_memory, c.well_formed.0)
 
 pub slice_bounds-copy_in-end : goal.slice_bounds-copy_in-end
 slice_bounds-copy_in-end c =
@@ -119,22 +79,14 @@ overflow_add-at c =
 
 pub loop-i-preserved : goal.loop-i-preserved
 loop-i-preserved c =
-    reading-next (readable (goal.at.loop-i-preserved c).At-loop-i) c.loop-i.invariant (omega (
+    reading-next (readable c.requires c.if-h-eq-FIRST_BLOCK_NUM.false) c.loop-i.invariant (omega (
       arith,
       c.loop-i-test.true,
     )) c.get_block_size-size.ensures.0 c.copy_in.ensures c.get_u32-place.ensures
 
-pub overflow_cast-from-2 : goal.overflow_cast-from-2
-overflow_cast-from-2 c =
-    omega (arith, (tail (goal.at.overflow_cast-from-2 c).After-get_block_size-size-2).in_memory, c.well_formed.0)
-
 pub overflow_sub-to : goal.overflow_sub-to
 overflow_sub-to c =
     omega (arith, c.get_block_size-size-2.ensures.0, (sound_facts c.args.h 0 c.requires.1.0).shape.within)
-
-pub overflow_add-to-2 : goal.overflow_add-to-2
-overflow_add-to-2 c =
-    omega (arith, (tail (goal.at.overflow_add-to-2 c).After-get_block_size-size-2).in_memory, c.well_formed.0)
 
 pub slice_bounds-copy_in-end-2 : goal.slice_bounds-copy_in-end-2
 slice_bounds-copy_in-end-2 c =
@@ -148,10 +100,7 @@ copy_in-requires-2 c =
       length_part c.args.lists.now c.loop-i.place (c.get_block_size-size-2.result - c.args.h.remaining) k.in_memory,
     )
 
-pub shape_of-output : goal.shape_of-output
-shape_of-output c = c.copy_in-2.auto.mem ∙ same (goal.at.shape_of-output c).At-loop-i
-
 pub returns : goal.returns
 returns c =
-    reading-end (readable (goal.at.returns c).At-loop-i) c.loop-i.invariant (omega (arith, c.loop-i-test.false)) (rw
+    reading-end (readable c.requires c.if-h-eq-FIRST_BLOCK_NUM.false) c.loop-i.invariant (omega (arith, c.loop-i-test.false)) (rw
     c.get_block_size-size-2.ensures.0) c.copy_in-2.ensures

@@ -1,5 +1,5 @@
--- `store_look::walk` meets its contract. The loop's invariant: the place is block i's, and the blocks before it are
--- good; its measure is how many are left. Assumes nothing.
+-- `expull_walk::walk` meets its contract. The loop's invariant: the place is block i's, and the blocks before it are
+-- good. Assumes nothing.
 use Prim.Native.Nat.{◌+◌, ◌≤◌}
 use mathlib.Core.Bool.{Bool, true, false}
 use mathlib.Core.Path.{◌≡◌, refl, sym}
@@ -35,13 +35,6 @@ pub returns-then-not-is_good_span : goal.returns-then-not-is_good_span
 returns-then-not-is_good_span c =
     sym (walking_stop c.loop-i.invariant c.loop-i-test.true (tested (goal.at.returns-then-not-is_good_span
     c).After-is_good_span false (c.if-not-is_good_span.true)))
-
-pub overflow_cast-place : goal.overflow_cast-place
-overflow_cast-place c =
-    omega (arith, in_memory (goal.at.overflow_cast-place c).Else-not-is_good_span, c.well_formed.0)
-
-pub overflow_add-place : goal.overflow_add-place
-overflow_add-place c = omega (arith, in_memory (goal.at.overflow_add-place c).Else-not-is_good_span, c.well_formed.0)
 
 pub get_u32-place-requires : goal.get_u32-place-requires
 get_u32-place-requires c = omega (arith, in_memory (goal.at.get_u32-place-requires c).Else-not-is_good_span)
