@@ -24,7 +24,7 @@ use Rattle.std.specs.Prelude.{Some, None, Ok, Err}
 use Rattle.limits.specs.declared.Refusal.{Refusal}
 use Rattle.limits.specs.declared.Refusal.TheVariants.{Damaged}
 use Rattle.expull_header.specs.Header.{block_size, sound_header, block_count, full_bytes, lane_length}
-use Rattle.expull_walk.specs.Blocks.{block_place, good_blocks, full_blocks, lane_bytes, block_at, block_length, block_of}
+use Rattle.expull_walk.specs.Blocks.{block_place, good_blocks, full_blocks, lane_bytes, block_told, block_length, block_of}
 use Rattle.expull_walk.specs.Blocks.{walk_of, place_of}
 use Rattle.expull_header.proofs.Laws.{sound_facts, full-more, length_none, length-parts}
 
@@ -175,7 +175,7 @@ unfolding block_of
 find_bad a m h i l e = rw (lt-leb (block_count h) i l, add-one i, e)
 
 pub find_at : (a : Arena) (m : List ℕ) (h : Header) (i : ℕ) → i < block_count h → good_blocks a m h.head (suc i) ≡ true
-    → block_of a m h i ≡ Ok (Some (block_at m h i))
+    → block_of a m h i ≡ Ok (Some (block_told m h i))
 unfolding block_of
 find_at a m h i l e = rw (lt-leb (block_count h) i l, add-one i, e)
 
@@ -222,7 +222,7 @@ unfolding place_of block_of
 block_met a m h i place l e = rw (lt-leb (block_count h) i l) (go (good_blocks a m h.head (i + 1)) e)
   where
     go : (t : Bool) → ok_or (cond t (Some (block_place m h.head i)) None) Damaged ≡ Ok place
-        → cond t (Ok (Some (block_at m h i))) (Err Damaged)
+        → cond t (Ok (Some (block_told m h i))) (Err Damaged)
         ≡ Ok (Some (record { at = place; length = block_length h i }))
     go true e = let z : block_place m h.head i ≡ place = cc in rw z
     go false e = cc
@@ -233,6 +233,6 @@ unfolding place_of block_of
 block_refused a m h i x l e = rw (lt-leb (block_count h) i l) (go (good_blocks a m h.head (i + 1)) e)
   where
     go : (t : Bool) → ok_or (cond t (Some (block_place m h.head i)) None) Damaged ≡ Err x
-        → cond t (Ok (Some (block_at m h i))) (Err Damaged) ≡ Err x
+        → cond t (Ok (Some (block_told m h i))) (Err Damaged) ≡ Err x
     go true e = cc
     go false e = let z : Damaged ≡ x = cc in ap Err z

@@ -44,15 +44,15 @@ unfolding block_size
 block_length h i = cond (eqb (i + 1) (block_count h)) (block_size h.number - h.remaining) (block_size (i + 3))
 
 -- RULES U3. Block i, as it is told.
-abbrev pub block_at : List ℕ → Header → ℕ → Block
-block_at m h i = record { at = block_place m h.head i; length = block_length h i }
+abbrev pub block_told : List ℕ → Header → ℕ → Block
+block_told m h i = record { at = block_place m h.head i; length = block_length h i }
 
 -- RULES U4, W5. Finding block i: past the last no block is met; else those up to it are.
 unfoldable pub block_of : Arena → List ℕ → Header → ℕ → Result (Option Block) Refusal
 unfolding good_blocks block_length
 block_of a m h i =
     cond (leb (block_count h) i) (Ok None)
-    (cond (good_blocks a m h.head (i + 1)) (Ok (Some (block_at m h i))) (Err Damaged))
+    (cond (good_blocks a m h.head (i + 1)) (Ok (Some (block_told m h i))) (Err Damaged))
 
 -- RULES U1. Walking along n blocks: where the next one is, or that one on the way isn't a good span.
 unfoldable pub walk_of : Arena → List ℕ → ℕ → ℕ → Option ℕ
