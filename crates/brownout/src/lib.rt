@@ -25,7 +25,6 @@ use brownout_faults::Checked;
 use expull_header::Header;
 use expull_walk::Block;
 use memory_arena::Arena;
-use records::Head;
 use shared_arena_hashmap::Met;
 use store_state::State;
 
@@ -110,8 +109,7 @@ fn judge(st: State, table: &[u32], keys: &[u8], lists: &[u8], i: usize, at: u32)
     if b != i {
         return 3;
     }
-    let head = records::get_head(keys, at);
-    let Head::Sound(h) = head else {
+    let Some(h) = records::get_head(keys, at) else {
         return 4;
     };
     judge_list(st, table, keys, lists, h)
@@ -193,8 +191,7 @@ fn look_over(st: State, table: &[u32], keys: &[u8], lists: &[u8], marks: &mut [u
     if fault != 0 {
         return fault;
     }
-    let head = records::get_head(keys, at);
-    let Head::Sound(h) = head else {
+    let Some(h) = records::get_head(keys, at) else {
         return 4;
     };
     mark_lane(table, keys, lists, arena, marks, at, h)

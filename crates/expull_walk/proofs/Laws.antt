@@ -200,6 +200,27 @@ unfolding place_of
 place_lost a m head i w =
     rw (add-one i, blocks_more a m head i, walk_false a m head i w)
 
+-- what a block's place says of the blocks up to it
+pub place_good : (a : Arena) (m : List ℕ) (head i place : ℕ) → place_of a m head i ≡ Some place
+    → (good_blocks a m head (suc i) ≡ true) × (place ≡ block_place m head i)
+unfolding place_of
+place_good a m head i place e = go (good_blocks a m head (suc i)) refl (rw add-one at e)
+  where
+    go : (t : Bool) → good_blocks a m head (suc i) ≡ t → cond t (Some (block_place m head i)) None ≡ Some place
+        → (good_blocks a m head (suc i) ≡ true) × (place ≡ block_place m head i)
+    go true q f = (q, (cc))
+    go false q f = cc
+
+pub place_bad : (a : Arena) (m : List ℕ) (head i : ℕ) → place_of a m head i ≡ None
+    → good_blocks a m head (suc i) ≡ false
+unfolding place_of
+place_bad a m head i e = go (good_blocks a m head (suc i)) refl (rw add-one at e)
+  where
+    go : (t : Bool) → good_blocks a m head (suc i) ≡ t → cond t (Some (block_place m head i)) None ≡ None
+        → good_blocks a m head (suc i) ≡ false
+    go true q f = cc
+    go false q f = q
+
 -- whether there is one tells whether so many blocks are good
 pub place_asked : (a : Arena) (m : List ℕ) (head n : ℕ) → 0 < n
     → is_some (place_of a m head (n - 1)) ≡ good_blocks a m head n

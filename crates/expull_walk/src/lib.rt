@@ -43,7 +43,7 @@ fn walk(lists: &[u8], arena: Arena, head: u32, n: u32) -> Option<u32>
 
 // The place of block i, where it and those before it are good spans, bytes and link. Its own link isn't read: it leads
 // to no block that is asked about, and lies far behind the bytes that are written, where nothing has been touched yet.
-fn find_place(lists: &[u8], arena: Arena, head: u32, i: u32) -> Option<u32>
+pub fn find_place(lists: &[u8], arena: Arena, head: u32, i: u32) -> Option<u32>
     requires { (sensible arena (length lists.now) ≡ true) × (i < number_limit) }
     ensures { result ≡ place_of arena lists.now head i }
 {

@@ -26,7 +26,6 @@ ghost use Rattle.store_append.specs.Append.{new_written, append_new, on_met, app
 
 use expull_header::Header;
 use memory_arena::{Allocated, Arena};
-use records::Head;
 use shared_arena_hashmap::Met;
 use store_state::{Name, State};
 
@@ -164,8 +163,7 @@ fn append_standing(
         bytes.now }
 {
     let arena = st.list_arena;
-    let head = records::get_head(keys, at);
-    let Head::Sound(h) = head else {
+    let Some(h) = records::get_head(keys, at) else {
         return Appended::Declined(st, 4);
     };
     if !expull_append::is_good_tail(arena, h) {
