@@ -23,7 +23,6 @@ ghost use Rattle.brownout.specs.Code.{looked_over, counted_on, gone_over};
 
 use brownout_faults::Checked;
 use expull_header::Header;
-use expull_walk::Block;
 use memory_arena::Arena;
 use shared_arena_hashmap::Met;
 use store_state::State;
@@ -66,11 +65,9 @@ fn is_tail_good(table: &[u32], keys: &[u8], lists: &[u8], arena: Arena, h: Heade
         return true;
     }
     let last = (h.number - 3) as usize;
-    let found = expull_walk::find_block(lists, arena, h, last);
-    let Block::BlockAt(at, n) = found else {
-        return false;
-    };
-    let end = (at as u64) + (n as u64);
+    // all its blocks are good, so the last one is found
+    let block = expull_walk::find_block(lists, arena, h, last).unwrap().unwrap();
+    let end = (block.at as u64) + (block.length as u64);
     (h.tail as u64) == end
 }
 

@@ -27,7 +27,7 @@ use Rattle.shared_arena_hashmap.specs.Power.{doubled, rounded_down, power_of_two
 use Rattle.shared_arena_hashmap.specs.Buckets.{address_at, hash_at, empty_at, with_bucket, empty_buckets, cleared}
 use Rattle.records.specs.Record.{key_length, good_record, key_at}
 use Rattle.shared_arena_hashmap.specs.Probe.{seen_record, seen_at, start_of, next_bucket, walked, on_seen, probe}
-use Rattle.shared_arena_hashmap.specs.Probe.{lookup, occupied, occupied_from}
+use Rattle.shared_arena_hashmap.specs.Probe.{lookup, occupied_by, occupied_from}
 use Rattle.shared_arena_hashmap.specs.Grow.{free_from, free_of, entered, reentered, all_reentered, grown}
 
 -- ---- powers of two
@@ -370,7 +370,8 @@ record_bounds t keys a first l hash name at e = probe-met t keys a first l hash 
 -- a turn and the end, from bucket i on
 pub occupied-turn : (t : List ℕ) (first i e : ℕ) → i < e
     → occupied_from t first (e - i) i
-    ≡ cond (empty_at t (first + i)) (occupied_from t first (e - (i + 1)) (i + 1)) (Some (occupied t first i))
+    ≡ cond (empty_at t (first + i)) (occupied_from t first (e - (i + 1)) (i + 1))
+    (Some (occupied_by i (address_at t (first + i))))
 unfolding occupied_from
 occupied-turn t first i e h = let q : e - i ≡ suc (e - (i + 1)) = omega arith in rw q
 

@@ -60,11 +60,11 @@ lookup t keys a first l hash name = probe t keys a first l hash name l (start_of
 -- ---- listing: "the next occupied bucket from i, or none"
 
 -- RULES N5. A bucket that isn't empty, with its record's place.
-abbrev pub occupied : List ℕ → ℕ → ℕ → Occupied
-occupied t first i = record { bucket = i; place = address_at t (first + i) }
+abbrev pub occupied_by : ℕ → ℕ → Occupied
+occupied_by i at = record { bucket = i; place = at }
 
 -- RULES N5. The first that isn't empty among n buckets from i on.
 unfoldable pub occupied_from : List ℕ → ℕ → ℕ → ℕ → Option Occupied
 occupied_from t first zero i = None
 occupied_from t first (suc n) i =
-    cond (empty_at t (first + i)) (occupied_from t first n (i + 1)) (Some (occupied t first i))
+    cond (empty_at t (first + i)) (occupied_from t first n (i + 1)) (Some (occupied_by i (address_at t (first + i))))
