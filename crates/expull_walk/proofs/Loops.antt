@@ -70,10 +70,10 @@ pub record Readable (a : Arena) (m : List ℕ) (h : Header) (room : ℕ) : Type 
   pub some_blocks : h.number ≡ fresh_number → ⊥
   pub space : lane_length h ≤ room
 
-pub readable : {a : Arena} {m : List ℕ} {h : Header} {room : ℕ} → (sensible a (length m) ≡ true)
-    × ((sound_header h 0 ≡ true) × ((good_blocks a m h.head (block_count h) ≡ true) × (lane_length h ≤ room)))
+pub readable : {a : Arena} {m : List ℕ} {h : Header} {room : ℕ} → sensible a (length m) ≡ true
+    → (sound_header h 0 ≡ true) × ((good_blocks a m h.head (block_count h) ≡ true) × (lane_length h ≤ room))
     → (h.number ≡ fresh_number → ⊥) → Readable a m h room
-readable k n = record { sense = k.0; sound = k.1.0; blocks = k.1.1.0; some_blocks = n; space = k.1.1.1 }
+readable s k n = record { sense = s; sound = k.0; blocks = k.1.0; some_blocks = n; space = k.1.1 }
 
 -- what holds while full blocks are copied: the first i of them stand at the front of the output
 pub record Reading (m : List ℕ) (h : Header) (output₀ output : List ℕ) (place at i : ℕ) : Type 0 where
