@@ -5,8 +5,6 @@ use mathlib.Core.Bool.{Bool, true, false, cond}
 use mathlib.Core.List.{List, [], ◌∷◌}
 use native.Mathlib.Numerals.{add-one}
 use native.Mathlib.Omega.{arith}
-use types.Run.{OneOf, miss}
-use denote.Enum.Declared.{tag_of}
 use lib.Dec.{leb, ltb, eqb}
 use lib.ListN.{length, take, drop, get_or, replicate, length-replicate}
 use borrow.Author.Tests.{eq-eqb, ne_eqb, lt-ltb, le-ltb, lt-leb, le-leb}
@@ -24,11 +22,10 @@ use Rattle.records.specs.Record.{key_length, key_at, good_record, value_place, h
 use Rattle.records.proofs.Laws.{good-record-in}
 use Rattle.shared_arena_hashmap.proofs.Laws.{power_facts, lookup-looked}
 use Rattle.expull_header.specs.declared.Header.{Header}
+use Rattle.std.specs.Prelude.{Some, Ok}
 use Rattle.expull_walk.specs.declared.Block.{Block}
-use Rattle.expull_walk.specs.declared.Block.TheVariants.{BlockAt}
 use Rattle.expull_header.specs.Header.{block_size, block_count, sound_header}
 use Rattle.expull_walk.specs.Blocks.{block_place, good_blocks, block_length, block_of}
-use Rattle.expull_walk.specs.contracts.Block.{the_type}
 use Rattle.expull_header.proofs.Laws.{sound_facts}
 use Rattle.expull_walk.proofs.Laws.{place-more, block_good, block_in_lem}
 use Rattle.store_state.specs.declared.State.{State}
@@ -146,7 +143,7 @@ module _ (m : Lent) (a : Arena) (h : Header) where
     three = let f = (sound_facts h 0 s).shape.from in omega arith
 
     pub last_found : (i : ℕ) → i ≡ h.number - 3 → block_of a m.lists h i
-        ≡ BlockAt (block_in m h (block_count h - 1)) (block_size h.number - h.remaining)
+        ≡ Ok (Some (record { at = block_in m h (block_count h - 1); length = block_size h.number - h.remaining }))
     unfolding block_of block_length
     last_found i e =
         let t = three in
@@ -154,19 +151,14 @@ module _ (m : Lent) (a : Arena) (h : Header) where
         let q : i ≡ block_count h - 1 = omega arith in
         rw (lt-leb (block_count h) i (omega arith), p, g, eq-eqb (block_count h) (block_count h) refl, q)
 
-    pub tail_some : (i at k : ℕ) → i ≡ h.number - 3 → block_of a m.lists h i ≡ BlockAt at k
-        → eqb h.tail (at + k) ≡ tail_good m h
+    pub tail_some : (i : ℕ) (b : Block) → i ≡ h.number - 3 → block_of a m.lists h i ≡ Ok (Some b)
+        → eqb h.tail (b.at + b.length) ≡ tail_good m h
     unfolding tail_good
-    tail_some i at k e f =
+    tail_some i b e f =
         let l = last_found i e in
-        let x : at ≡ block_in m h (block_count h - 1) = cc in
-        let y : k ≡ block_size h.number - h.remaining = cc in
+        let x : b.at ≡ block_in m h (block_count h - 1) = cc in
+        let y : b.length ≡ block_size h.number - h.remaining = cc in
         rw (ne_eqb h.number fresh_number n, x, y)
-
-    pub tail_lost : {A : Type 0} (i : ℕ) (b : Block) → i ≡ h.number - 3 → b ≡ block_of a m.lists h i
-        → OneOf (1 ∷ 2 ∷ []) (tag_of the_type b) → A
-    tail_lost i b e f o = absurd (miss (1 ∷ 2 ∷ []) 0 tt
-        (subst (λ (x : Block). OneOf (1 ∷ 2 ∷ []) (tag_of the_type x)) (f ∙ last_found i e) o))
 
 module _ (st : State) (m : Lent) (h : Header) where
   pub list_5 : good_blocks st.list_arena m.lists h.head (block_count h) ≡ false → 5 ≡ list_judged st m h

@@ -23,9 +23,7 @@ ghost use Rattle.brownout.specs.Code.{looked_over, counted_on, gone_over};
 
 use brownout_faults::Checked;
 use expull_header::Header;
-use expull_walk::Block;
 use memory_arena::Arena;
-use records::Head;
 use shared_arena_hashmap::Met;
 use store_state::State;
 
@@ -67,11 +65,9 @@ fn is_tail_good(table: &[u32], keys: &[u8], lists: &[u8], arena: Arena, h: Heade
         return true;
     }
     let last = (h.number - 3) as usize;
-    let found = expull_walk::find_block(lists, arena, h, last);
-    let Block::BlockAt(at, n) = found else {
-        return false;
-    };
-    let end = (at as u64) + (n as u64);
+    // all its blocks are good, so the last one is found
+    let block = expull_walk::find_block(lists, arena, h, last).unwrap().unwrap();
+    let end = (block.at as u64) + (block.length as u64);
     (h.tail as u64) == end
 }
 
@@ -110,8 +106,7 @@ fn judge(st: State, table: &[u32], keys: &[u8], lists: &[u8], i: usize, at: u32)
     if b != i {
         return 3;
     }
-    let head = records::get_head(keys, at);
-    let Head::Sound(h) = head else {
+    let Some(h) = records::get_head(keys, at) else {
         return 4;
     };
     judge_list(st, table, keys, lists, h)
@@ -193,8 +188,7 @@ fn look_over(st: State, table: &[u32], keys: &[u8], lists: &[u8], marks: &mut [u
     if fault != 0 {
         return fault;
     }
-    let head = records::get_head(keys, at);
-    let Head::Sound(h) = head else {
+    let Some(h) = records::get_head(keys, at) else {
         return 4;
     };
     mark_lane(table, keys, lists, arena, marks, at, h)

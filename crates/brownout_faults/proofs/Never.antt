@@ -16,16 +16,17 @@ use Rattle.memory_arena.specs.Pages.{MaybeRoom, standing, good_span, room_for}
 use Rattle.memory_arena.proofs.Laws.{sensible_facts, standing_facts, good-end, good_page, good-below}
 use Rattle.shared_arena_hashmap.specs.declared.Met.{Met}
 use Rattle.shared_arena_hashmap.specs.declared.Met.TheVariants.{Empty, Standing, Damaged, Lap}
-use Rattle.shared_arena_hashmap.specs.declared.Next.TheVariants.{Occupied}
+use Rattle.shared_arena_hashmap.specs.Probe.{occupied_by}
 use Rattle.shared_arena_hashmap.specs.Buckets.{address_at}
 use Rattle.records.specs.Record.{value_place, header_of, header_sound}
 use Rattle.shared_arena_hashmap.specs.Probe.{occupied_from}
 use Rattle.shared_arena_hashmap.proofs.Laws.{power_facts}
 use Rattle.expull_header.specs.declared.Header.{Header}
-use Rattle.expull_walk.specs.declared.Block.TheVariants.{BlockAt, NoBlock, BadBlock}
+use Rattle.std.specs.Prelude.{Some, None, Ok, Err}
+use Rattle.limits.specs.declared.Refusal.TheVariants.{Damage as BadBlock}
 use Rattle.expull_header.specs.Header.{fresh, block_size, block_count, lane_length, end_bytes_at}
 use Rattle.expull_append.specs.Append.{Writing, writing, appended, good_tail}
-use Rattle.expull_walk.specs.Blocks.{block_place, good_blocks, block_of}
+use Rattle.expull_walk.specs.Blocks.{block_place, good_blocks, block_told, block_of}
 use Rattle.expull_header.proofs.Laws.{SoundHeader, sound_facts}
 use Rattle.history_lanes.proofs.Blocks.{placed_within}
 use Rattle.store_state.specs.declared.State.{State}
@@ -163,10 +164,9 @@ module _ (st : State) (m : Lent) (W : checked st m ≡ true) (F : Faultless st m
   never_block name i = go (lookup_of st m name) (looks name (lookup_of st m name) refl)
     where
       found : (x : ℕ) → Kept x → (b : Bool) → leb (block_count (header_of m.keys x)) i ≡ b
-          → number_in (said_answer (on_block (cond b NoBlock
+          → number_in (said_answer (on_block (cond b (Ok None)
           (cond (good_blocks st.list_arena m.lists (header_of m.keys x).head (i + 1))
-          (BlockAt (block_place m.lists (header_of m.keys x).head i)
-          (Rattle.expull_walk.specs.Blocks.block_length (header_of m.keys x) i)) BadBlock)))) ≡ 4 → ⊥
+          (Ok (Some (block_told m.lists (header_of m.keys x) i))) (Err BadBlock))))) ≡ 4 → ⊥
       found x K true q = λ z. omega arith
       found x K false q =
           rw (good_fewer st.list_arena m.lists (header_of m.keys x).head (i + 1)
@@ -192,8 +192,8 @@ module _ (st : State) (m : Lent) (W : checked st m ≡ true) (F : Faultless st m
       go : (v : Bool) → vacant st m j ≡ v
           → (number_in (said_listed (on_next (occupied_from m.table (first_of st) n (j + 1)) st.key_arena m.keys))
           ≡ 4 → ⊥)
-          → number_in (said_listed (on_next (cond v (occupied_from m.table (first_of st) n (j + 1)) (Occupied j (address_at
-          m.table (first_of st + j)))) st.key_arena m.keys)) ≡ 4 → ⊥
+          → number_in (said_listed (on_next (cond v (occupied_from m.table (first_of st) n (j + 1)) (Some (occupied_by j (address_at
+          m.table (first_of st + j))))) st.key_arena m.keys)) ≡ 4 → ⊥
       go true v ih = ih
       go false v ih = rw (clean j (omega (arith, h (omega arith))) v).good (λ z. omega arith)
 

@@ -11,7 +11,7 @@ ghost use Rattle.expull_header.specs.Header.{block_size, fresh, header_bytes, he
 ghost use Rattle.expull_header.specs.Header.{lane_length};
 
 // A list's header: its block number, first block, next byte to write, and the bytes that remain in the last block.
-#[derive(Clone, Copy)]
+#[derive(Clone, Copy, PartialEq, Eq)]
 pub struct Header {
     pub number: u32,
     pub head: u32,
@@ -35,7 +35,7 @@ pub fn fresh_header() -> Header
 pub fn get_block_size(number: u32) -> u32
     ensures { (result ≡ block_size number) × ((0 < result) × (result ≤ 32768)) }
 {
-    let exp = numbers::least(number as usize, limits::SIZE_TOP);
+    let exp = (number as usize).min(limits::SIZE_TOP);
     1u32 << exp
 }
 
@@ -80,13 +80,10 @@ pub fn put_header(mem: &mut [u8], at: usize, h: Header)
 pub fn is_sound_header(h: Header, ends: u32) -> bool
     ensures { result ≡ sound_header h ends }
 {
-    let size = get_block_size(h.number);
     if h.number == limits::FIRST_BLOCK_NUM {
-        return (h.head == limits::NULL)
-            & (h.tail == limits::NULL)
-            & (h.remaining == 0)
-            & (ends == 0);
+        return (h == fresh_header()) & (ends == 0);
     }
+    let size = get_block_size(h.number);
     (limits::FIRST_BLOCK_NUM <= h.number)
         & (h.number <= limits::NUMBER_LIMIT)
         & ((h.head != limits::NULL) & (h.remaining <= size))

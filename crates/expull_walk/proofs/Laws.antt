@@ -1,6 +1,6 @@
 -- Laws of the walk along a list's blocks, of readings and of finding a block. Assumes nothing.
 use Prim.Native.Nat.{ℕ, zero, suc, ◌+◌, ◌-◌, ◌≤◌, ◌<◌}
-use mathlib.Core.Path.{◌≡◌, refl, sym, ◌∙◌}
+use mathlib.Core.Path.{◌≡◌, refl, sym, ap, ◌∙◌}
 use mathlib.Core.Bool.{Bool, true, false, cond, ◌&&◌}
 use mathlib.Core.List.{List, [], ◌++◌}
 use native.Mathlib.Numerals.{add-one}
@@ -18,10 +18,14 @@ use Rattle.memory_arena.specs.Pages.{good_span}
 use Rattle.memory_arena.specs.Calls.{sensible}
 use Rattle.memory_arena.proofs.Laws.{good-in, sensible_facts}
 use Rattle.expull_header.specs.declared.Header.{Header}
-use Rattle.expull_walk.specs.declared.Walked.TheVariants.{To, Stopped}
-use Rattle.expull_walk.specs.declared.Block.TheVariants.{BlockAt, NoBlock, BadBlock}
+use Rattle.std.specs.Bool.{then_some}
+use Rattle.std.specs.Option.{is_some, ok_or}
+use Rattle.std.specs.Prelude.{Some, None, Ok, Err}
+use Rattle.limits.specs.declared.Refusal.{Refusal}
+use Rattle.limits.specs.declared.Refusal.TheVariants.{Damage}
 use Rattle.expull_header.specs.Header.{block_size, sound_header, block_count, full_bytes, lane_length}
-use Rattle.expull_walk.specs.Blocks.{block_place, good_blocks, full_blocks, lane_bytes, block_length, block_of, walk_of}
+use Rattle.expull_walk.specs.Blocks.{block_place, good_blocks, full_blocks, lane_bytes, block_told, block_length, block_of}
+use Rattle.expull_walk.specs.Blocks.{walk_of, place_of}
 use Rattle.expull_header.proofs.Laws.{sound_facts, full-more, length_none, length-parts}
 
 -- ---- good blocks
@@ -131,23 +135,23 @@ lane-bytes-length a m h s t e = go (eqb h.number fresh_number) refl
         (sym (length-parts h n))
 
 -- what a walk's answer says of the blocks
-pub walk_true : (a : Arena) (m : List ℕ) (head n place : ℕ) → walk_of a m head n ≡ To place
+pub walk_true : (a : Arena) (m : List ℕ) (head n place : ℕ) → walk_of a m head n ≡ Some place
     → (good_blocks a m head n ≡ true) × (place ≡ block_place m head n)
 unfolding walk_of
 walk_true a m head n place e = go (good_blocks a m head n) refl e
   where
-    go : (t : Bool) → good_blocks a m head n ≡ t → cond t (To (block_place m head n)) Stopped ≡ To place
+    go : (t : Bool) → good_blocks a m head n ≡ t → cond t (Some (block_place m head n)) None ≡ Some place
         → (good_blocks a m head n ≡ true) × (place ≡ block_place m head n)
     go true q f = (q, (cc))
-    go false q f = let z : ◌≡◌ {A = ℕ} 0 1 = cc in absurd (omega arith)
+    go false q f = cc
 
-pub walk_false : (a : Arena) (m : List ℕ) (head n : ℕ) → walk_of a m head n ≡ Stopped → good_blocks a m head n ≡ false
+pub walk_false : (a : Arena) (m : List ℕ) (head n : ℕ) → walk_of a m head n ≡ None → good_blocks a m head n ≡ false
 unfolding walk_of
 walk_false a m head n e = go (good_blocks a m head n) refl e
   where
-    go : (t : Bool) → good_blocks a m head n ≡ t → cond t (To (block_place m head n)) Stopped ≡ Stopped
+    go : (t : Bool) → good_blocks a m head n ≡ t → cond t (Some (block_place m head n)) None ≡ None
         → good_blocks a m head n ≡ false
-    go true q f = let z : ◌≡◌ {A = ℕ} 0 1 = cc in absurd (omega arith)
+    go true q f = cc
     go false q f = q
 
 -- ---- finding a block
@@ -161,24 +165,95 @@ pub block_whole : (h : Header) (i : ℕ) → i < block_count h → (i + 3 ≡ h.
 unfolding block_length
 block_whole h i l n = rw (ne_eqb (i + 1) (block_count h) (λ e. n (omega arith)))
 
-pub find_none : (a : Arena) (m : List ℕ) (h : Header) (i : ℕ) → block_count h ≤ i → block_of a m h i ≡ NoBlock
+pub find_none : (a : Arena) (m : List ℕ) (h : Header) (i : ℕ) → block_count h ≤ i → block_of a m h i ≡ Ok None
 unfolding block_of
 find_none a m h i l = rw (le-leb (block_count h) i l)
 
 pub find_bad : (a : Arena) (m : List ℕ) (h : Header) (i : ℕ) → i < block_count h
-    → good_blocks a m h.head (suc i) ≡ false → block_of a m h i ≡ BadBlock
+    → good_blocks a m h.head (suc i) ≡ false → block_of a m h i ≡ Err Damage
 unfolding block_of
 find_bad a m h i l e = rw (lt-leb (block_count h) i l, add-one i, e)
 
 pub find_at : (a : Arena) (m : List ℕ) (h : Header) (i : ℕ) → i < block_count h → good_blocks a m h.head (suc i) ≡ true
-    → block_of a m h i ≡ BlockAt (block_place m h.head i) (block_length h i)
+    → block_of a m h i ≡ Ok (Some (block_told m h i))
 unfolding block_of
 find_at a m h i l e = rw (lt-leb (block_count h) i l, add-one i, e)
 
 -- the blocks before i are good: the test of block i decides
-pub blocks_end : (a : Arena) (m : List ℕ) (head i place size : ℕ) (t u : Bool) → walk_of a m head i ≡ To place
-    → size ≡ block_size (i + 3)
-    → t ≡ good_span a place (size + link_size) → t ≡ u → good_blocks a m head (suc i) ≡ u
-blocks_end a m head i place size t u w e f g =
+pub place_tested : (a : Arena) (m : List ℕ) (head i place size : ℕ) (t : Bool) → walk_of a m head i ≡ Some place
+    → size ≡ block_size (i + 3) → t ≡ good_span a place (size + link_size)
+    → then_some t place ≡ place_of a m head i
+unfolding place_of
+place_tested a m head i place size t w e f =
     let k = walk_true a m head i place w in
-    blocks_more a m head i ∙ rw k.0 (sym (f ∙ rw (k.1, e)) ∙ g)
+    let g : good_blocks a m head (i + 1) ≡ t =
+    rw (add-one i) (blocks_more a m head i ∙ rw k.0 (sym (f ∙ rw (k.1, e)))) in
+    rw (g, k.1) (go t)
+  where
+    go : (t : Bool) → then_some t (block_place m head i) ≡ cond t (Some (block_place m head i)) None
+    go true = refl
+    go false = refl
+
+-- or one before it is bad
+pub place_lost : (a : Arena) (m : List ℕ) (head i : ℕ) → walk_of a m head i ≡ None → None ≡ place_of a m head i
+unfolding place_of
+place_lost a m head i w =
+    rw (add-one i, blocks_more a m head i, walk_false a m head i w)
+
+-- what a block's place says of the blocks up to it
+pub place_good : (a : Arena) (m : List ℕ) (head i place : ℕ) → place_of a m head i ≡ Some place
+    → (good_blocks a m head (suc i) ≡ true) × (place ≡ block_place m head i)
+unfolding place_of
+place_good a m head i place e = go (good_blocks a m head (suc i)) refl (rw add-one at e)
+  where
+    go : (t : Bool) → good_blocks a m head (suc i) ≡ t → cond t (Some (block_place m head i)) None ≡ Some place
+        → (good_blocks a m head (suc i) ≡ true) × (place ≡ block_place m head i)
+    go true q f = (q, (cc))
+    go false q f = cc
+
+pub place_bad : (a : Arena) (m : List ℕ) (head i : ℕ) → place_of a m head i ≡ None
+    → good_blocks a m head (suc i) ≡ false
+unfolding place_of
+place_bad a m head i e = go (good_blocks a m head (suc i)) refl (rw add-one at e)
+  where
+    go : (t : Bool) → good_blocks a m head (suc i) ≡ t → cond t (Some (block_place m head i)) None ≡ None
+        → good_blocks a m head (suc i) ≡ false
+    go true q f = cc
+    go false q f = q
+
+-- whether there is one tells whether so many blocks are good
+pub place_asked : (a : Arena) (m : List ℕ) (head n : ℕ) → 0 < n
+    → is_some (place_of a m head (n - 1)) ≡ good_blocks a m head n
+unfolding place_of
+place_asked a m head n h = let e : n - 1 + 1 ≡ n = omega arith in rw e (go (good_blocks a m head n))
+  where
+    go : (t : Bool) → is_some (cond t (Some (block_place m head (n - 1))) None) ≡ t
+    go true = refl
+    go false = refl
+
+pub none_asked : (a : Arena) (m : List ℕ) (head n : ℕ) → n ≡ 0 → good_blocks a m head n ≡ true
+unfolding good_blocks
+none_asked a m head n e = rw e
+
+-- a block's place, or why there is none, is what is told of the block
+pub block_met : (a : Arena) (m : List ℕ) (h : Header) (i place : ℕ) → i < block_count h
+    → ok_or (place_of a m h.head i) Damage ≡ Ok place
+    → block_of a m h i ≡ Ok (Some (record { at = place; length = block_length h i }))
+unfolding place_of block_of
+block_met a m h i place l e = rw (lt-leb (block_count h) i l) (go (good_blocks a m h.head (i + 1)) e)
+  where
+    go : (t : Bool) → ok_or (cond t (Some (block_place m h.head i)) None) Damage ≡ Ok place
+        → cond t (Ok (Some (block_told m h i))) (Err Damage)
+        ≡ Ok (Some (record { at = place; length = block_length h i }))
+    go true e = let z : block_place m h.head i ≡ place = cc in rw z
+    go false e = cc
+
+pub block_refused : (a : Arena) (m : List ℕ) (h : Header) (i : ℕ) (x : Refusal) → i < block_count h
+    → ok_or (place_of a m h.head i) Damage ≡ Err x → block_of a m h i ≡ Err x
+unfolding place_of block_of
+block_refused a m h i x l e = rw (lt-leb (block_count h) i l) (go (good_blocks a m h.head (i + 1)) e)
+  where
+    go : (t : Bool) → ok_or (cond t (Some (block_place m h.head i)) None) Damage ≡ Err x
+        → cond t (Ok (Some (block_told m h i))) (Err Damage) ≡ Err x
+    go true e = cc
+    go false e = let z : Damage ≡ x = cc in ap Err z

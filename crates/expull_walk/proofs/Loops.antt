@@ -18,7 +18,7 @@ use Rattle.expull_header.specs.declared.Header.{Header}
 use Rattle.expull_header.specs.Header.{block_size, sound_header, block_count, full_bytes, lane_length}
 use Rattle.expull_header.proofs.Laws.{sound_facts, full-more, length-parts}
 use Rattle.numbers.proofs.Tests.{both_true}
-use Rattle.expull_walk.specs.declared.Walked.TheVariants.{To, Stopped}
+use Rattle.std.specs.Prelude.{Some, None}
 use Rattle.expull_walk.specs.Blocks.{block_place, good_blocks, full_blocks, lane_bytes, walk_of}
 use Rattle.expull_walk.proofs.Laws.{good_block, blocks_more, place-more, blocks_fewer, block_good}
 use Rattle.expull_walk.proofs.Laws.{bad_block_stays, block_in_lem, full-within, length-full, last_of}
@@ -50,15 +50,15 @@ module _ {a : Arena} {m : List ℕ} {head n place i : ℕ} (w : Walking a m head
     good = rw (add-one i) (blocks_more a m head i ∙ both_true _ _ w.good g);
   }
 
-  pub walking_stop : i < n → good_block a m head i ≡ false → walk_of a m head n ≡ Stopped
+  pub walking_stop : i < n → good_block a m head i ≡ false → walk_of a m head n ≡ None
   unfolding walk_of
   walking_stop h g = rw (bad_block_stays a m head i n h g)
 
-  pub walking-end : n ≤ i → To place ≡ walk_of a m head n
+  pub walking-end : n ≤ i → Some place ≡ walk_of a m head n
   unfolding walk_of
   walking-end h =
       let e : i ≡ n = omega (arith, w.at_most) in
-      rw (← e, w.good) (ap To w.here)
+      rw (← e, w.good) (ap Some w.here)
 
 -- ---- the reading's loop
 
@@ -69,6 +69,11 @@ pub record Readable (a : Arena) (m : List ℕ) (h : Header) (room : ℕ) : Type 
   pub blocks : good_blocks a m h.head (block_count h) ≡ true
   pub some_blocks : h.number ≡ fresh_number → ⊥
   pub space : lane_length h ≤ room
+
+pub readable : {a : Arena} {m : List ℕ} {h : Header} {room : ℕ} → sensible a (length m) ≡ true
+    → (sound_header h 0 ≡ true) × ((good_blocks a m h.head (block_count h) ≡ true) × (lane_length h ≤ room))
+    → (h.number ≡ fresh_number → ⊥) → Readable a m h room
+readable s k n = record { sense = s; sound = k.0; blocks = k.1.0; some_blocks = n; space = k.1.1 }
 
 -- what holds while full blocks are copied: the first i of them stand at the front of the output
 pub record Reading (m : List ℕ) (h : Header) (output₀ output : List ℕ) (place at i : ℕ) : Type 0 where

@@ -1,16 +1,15 @@
 -- RULES U, R5. Document 01, "Lists": walking a list's blocks from its head, its reading, and finding a block. Block
 -- i, from 0, has block number i + 3.
-use Rattle.std.specs.Prelude.{ℕ, zero, suc, ◌+◌, ◌-◌, Bool, true, cond, ◌&&◌, List, [], ◌++◌, leb, eqb}
+use Rattle.std.specs.Prelude.{ℕ, zero, suc, ◌+◌, ◌-◌, Bool, true, cond, ◌&&◌, List, [], ◌++◌, Option, Some, None, Result, Ok, Err, leb, eqb}
 use Rattle.limits.specs.Limits.{fresh_number, link_size}
+use Rattle.limits.specs.declared.Refusal.{Refusal}
+use Rattle.limits.specs.declared.Refusal.TheVariants.{Damage}
 use Rattle.numbers.specs.LittleEndian.{le_number}
 use Rattle.spans.specs.Span.{read_span}
 use Rattle.memory_arena.specs.declared.Arena.{Arena}
 use Rattle.memory_arena.specs.Pages.{good_span}
 use Rattle.expull_header.specs.declared.Header.{Header}
 use Rattle.expull_walk.specs.declared.Block.{Block}
-use Rattle.expull_walk.specs.declared.Block.TheVariants.{BlockAt, NoBlock, BadBlock}
-use Rattle.expull_walk.specs.declared.Walked.{Walked}
-use Rattle.expull_walk.specs.declared.Walked.TheVariants.{To, Stopped}
 use Rattle.expull_header.specs.Header.{block_size, block_count}
 
 -- RULES R5. Block i's address: the head, then each block's link.
@@ -44,14 +43,23 @@ unfoldable pub block_length : Header → ℕ → ℕ
 unfolding block_size
 block_length h i = cond (eqb (i + 1) (block_count h)) (block_size h.number - h.remaining) (block_size (i + 3))
 
+-- RULES U3. Block i, as it is told.
+abbrev pub block_told : List ℕ → Header → ℕ → Block
+block_told m h i = record { at = block_place m h.head i; length = block_length h i }
+
 -- RULES U4, W5. Finding block i: past the last no block is met; else those up to it are.
-unfoldable pub block_of : Arena → List ℕ → Header → ℕ → Block
+unfoldable pub block_of : Arena → List ℕ → Header → ℕ → Result (Option Block) Refusal
 unfolding good_blocks block_length
 block_of a m h i =
-    cond (leb (block_count h) i) NoBlock
-    (cond (good_blocks a m h.head (i + 1)) (BlockAt (block_place m h.head i) (block_length h i)) BadBlock)
+    cond (leb (block_count h) i) (Ok None)
+    (cond (good_blocks a m h.head (i + 1)) (Ok (Some (block_told m h i))) (Err Damage))
 
 -- RULES U1. Walking along n blocks: where the next one is, or that one on the way isn't a good span.
-unfoldable pub walk_of : Arena → List ℕ → ℕ → ℕ → Walked
+unfoldable pub walk_of : Arena → List ℕ → ℕ → ℕ → Option ℕ
 unfolding good_blocks
-walk_of a m head n = cond (good_blocks a m head n) (To (block_place m head n)) Stopped
+walk_of a m head n = cond (good_blocks a m head n) (Some (block_place m head n)) None
+
+-- RULES U1, W5. Block i's address, where it and those before it are good spans.
+unfoldable pub place_of : Arena → List ℕ → ℕ → ℕ → Option ℕ
+unfolding good_blocks
+place_of a m head i = cond (good_blocks a m head (i + 1)) (Some (block_place m head i)) None

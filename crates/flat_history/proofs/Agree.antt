@@ -12,7 +12,7 @@ use Rattle.limits.specs.Limits.{page_taken, name_limit, name_limit_for, record_e
 use Rattle.std.specs.Prelude.{Err}
 use Rattle.limits.specs.Refusals.{number_of as number_for}
 use Rattle.limits.specs.declared.Refusal.{Refusal}
-use Rattle.limits.specs.declared.Refusal.TheVariants.{NameTooLong, Nameless}
+use Rattle.limits.specs.declared.Refusal.TheVariants.{NameTooLong, NoName}
 use Rattle.memory_arena.specs.declared.Arena.{Arena}
 use Rattle.memory_arena.specs.Pages.{MaybeRoom, room_for}
 use Rattle.memory_arena.proofs.Laws.{sensible_facts}

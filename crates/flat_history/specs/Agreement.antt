@@ -3,7 +3,7 @@
 -- buffer.
 use Rattle.std.specs.Prelude.{ℕ, ◌<◌, ◌≡◌, List, [], length}
 use Rattle.limits.specs.Limits.{name_limit}
-use Rattle.limits.specs.declared.Refusal.TheVariants.{NameTooLong, Nameless}
+use Rattle.limits.specs.declared.Refusal.TheVariants.{NameTooLong, NoName}
 use Rattle.entries.specs.Log.{Entry}
 use Rattle.store_look.specs.declared.Lookup.TheVariants.{Failed}
 use Rattle.store_look.specs.Look.{lookup_of}
@@ -42,7 +42,7 @@ pub record SameRecord (w : World) (calls : List Call) (lent : List ℕ) (tries :
   pub nameless : ReadsAbsent (play calls w) []
       × (held_of (flat_play tries (flat lent 0)).buffer (flat_play tries (flat lent 0)).used [] ≡ absent)
   pub nameless_appended : (bytes : List ℕ)
-      → BothRefuse Nameless (play calls w) (flat_play tries (flat lent 0)) [] bytes
+      → BothRefuse NoName (play calls w) (flat_play tries (flat lent 0)) [] bytes
 
 -- RULES AH9. "Page sizes above 65,536": there a store's longest name is the flat store's
 abbrev pub WidePages : World → Type 0

@@ -15,7 +15,7 @@ use Rattle.spans.specs.Span.{read_span, overwrite}
 use Rattle.entries.specs.Log.{entry, joined_in}
 use Rattle.entries.specs.Form.{byte_limit, encoded, entry_size, Met, entries_of}
 use Rattle.std.specs.Prelude.{Some, Ok, Err}
-use Rattle.limits.specs.declared.Refusal.TheVariants.{NotWhole, NameTooLong, Damaged, Nameless, BufferFull}
+use Rattle.limits.specs.declared.Refusal.TheVariants.{NotWhole, NameTooLong, Damage, NoName, BufferFull}
 use Rattle.flat_store.specs.declared.NotRead.TheVariants.{TooShort}
 use Rattle.flat_store.specs.Calls.{Out, out, has_room, append_of, Held, stands, absent, refuses, held_by, held_in}
 use Rattle.flat_store.specs.Calls.{held_of, reading, read_by, read_of}
@@ -36,7 +36,7 @@ module _ (buffer : List ℕ) (used : ℕ) (name bytes : List ℕ) where
   unfolding append_of
   append_3 h k = rw (le-leb used (length buffer) h, lt-leb (length name) name_limit k)
 
-  pub append_13 : used ≤ length buffer → length name ≤ 0 → append_of buffer used name bytes ≡ out (Err Nameless) buffer
+  pub append_13 : used ≤ length buffer → length name ≤ 0 → append_of buffer used name bytes ≡ out (Err NoName) buffer
   unfolding append_of
   append_13 h k =
       rw (le-leb used (length buffer) h, le-leb (length name) name_limit (omega arith), le-ltb 0 (length name) k)
@@ -50,7 +50,7 @@ module _ (buffer : List ℕ) (used : ℕ) (name bytes : List ℕ) where
 
   -- what holds of each outcome holds of the append
   pub append_any : (P : Out → Type 0) → P (out (Err NotWhole) buffer) → P (out (Err NameTooLong) buffer)
-      → P (out (Err Nameless) buffer) → P (out (Err BufferFull) buffer)
+      → P (out (Err NoName) buffer) → P (out (Err BufferFull) buffer)
       → (Taken → P (out (Ok (used + entry_size name bytes)) (overwrite used (encoded (entry name bytes)) buffer)))
       → P (append_of buffer used name bytes)
   unfolding append_of
@@ -62,7 +62,7 @@ module _ (buffer : List ℕ) (used : ℕ) (name bytes : List ℕ) where
           → has_room (length buffer) used (length name) (length bytes) ≡ d
           → P (cond a (cond b (cond c (cond d
           (out (Ok (used + entry_size name bytes)) (overwrite used (encoded (entry name bytes)) buffer))
-          (out (Err BufferFull) buffer)) (out (Err Nameless) buffer)) (out (Err NameTooLong) buffer)) (out (Err NotWhole) buffer))
+          (out (Err BufferFull) buffer)) (out (Err NoName) buffer)) (out (Err NameTooLong) buffer)) (out (Err NotWhole) buffer))
       go true true true true x y z r =
           p (record { inside = leb-true _ _ x; short = leb-true _ _ y; named = ltb-true _ _ z; room = r })
       go true true true false x y z r = p14
@@ -94,7 +94,7 @@ module _ (buffer : List ℕ) (used : ℕ) (name : List ℕ) where
 
   -- what holds of each outcome holds of what is held
   pub held_any : (P : Held → Type 0) → ((bs : List ℕ) → Stood bs → P (stands bs)) → P absent → P (refuses NotWhole)
-      → P (refuses NameTooLong) → P (refuses Damaged) → P (held_of buffer used name)
+      → P (refuses NameTooLong) → P (refuses Damage) → P (held_of buffer used name)
   unfolding held_of
   held_any P ps pa p2 p3 p4 =
       go (leb used (length buffer)) (leb (length name) name_limit) (ltb 0 (length name)) refl
@@ -106,7 +106,7 @@ module _ (buffer : List ℕ) (used : ℕ) (name : List ℕ) where
       come none e h = pa
       come (some bs) e h = ps bs (record { inside = h; joined = e })
 
-      ended : (b : Bool) → used ≤ length buffer → P (cond b (held_by (joined_in name met.entries none)) (refuses Damaged))
+      ended : (b : Bool) → used ≤ length buffer → P (cond b (held_by (joined_in name met.entries none)) (refuses Damage))
       ended true h = come (joined_in name met.entries none) refl h
       ended false h = p4
 

@@ -12,7 +12,7 @@ use Rattle.std.specs.Prelude.{Some, None, Ok, Err}
 use Rattle.std.specs.Option.{is_some}
 use Rattle.limits.specs.Limits.{name_limit}
 use Rattle.limits.specs.Refusals.{permitted, flat_reading}
-use Rattle.limits.specs.declared.Refusal.TheVariants.{Damaged}
+use Rattle.limits.specs.declared.Refusal.TheVariants.{Damage}
 use Rattle.spans.specs.Span.{read_span, overwrite}
 use Rattle.spans.proofs.Laws.{length_span}
 use Rattle.entries.specs.Log.{Entry, joined_in}
@@ -43,8 +43,8 @@ module _ (buffer : List ℕ) (used : ℕ) (name : List ℕ) where
       by (some bs) = refl
 
       go : (b : Bool) (es : List Entry)
-          → ◌≡◌ {A = Measured} (cond b (Ok (tally_in name es None)) (Err Damaged))
-          (length_by (cond b (held_by (joined_in name es none)) (refuses Damaged)))
+          → ◌≡◌ {A = Measured} (cond b (Ok (tally_in name es None)) (Err Damage))
+          (length_by (cond b (held_by (joined_in name es none)) (refuses Damage)))
       go true es = ap (λ (t : Tally). Ok t) (tally-joined name es none) ∙ by (joined_in name es none)
       go false es = refl
 

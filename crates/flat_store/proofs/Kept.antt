@@ -18,7 +18,7 @@ use Rattle.entries.specs.Log.{Entry, joined_on, joined_in}
 use Rattle.entries.specs.Form.{encoded, entry_size, encoded_all, entries_of}
 use Rattle.entries.proofs.Laws.{length-encoded, encoded-more, all_more, read_back}
 use Rattle.std.specs.Prelude.{Ok, Err}
-use Rattle.limits.specs.declared.Refusal.TheVariants.{NotWhole, NameTooLong, Nameless, BufferFull}
+use Rattle.limits.specs.declared.Refusal.TheVariants.{NotWhole, NameTooLong, NoName, BufferFull}
 use Rattle.flat_store.specs.Calls.{Out, out, has_room, append_of, held_by, held_in, held_of}
 use Rattle.flat_store.specs.Said.{said_appended}
 use Rattle.flat_store.specs.History.{Flat, flat, is_accepted, left, after, play, logged, log_of, AllNamed}
@@ -114,7 +114,7 @@ module _ (lent : List ℕ) (f : Flat) (log : List Entry) (H : Holds lent f log) 
       tree a b c d =
           cond a (cond b (cond c (cond d
           (out (Ok (f.used + entry_size e.name e.bytes)) (overwrite f.used (encoded e) f.buffer))
-          (out (Err BufferFull) f.buffer)) (out (Err Nameless) f.buffer)) (out (Err NameTooLong) f.buffer))
+          (out (Err BufferFull) f.buffer)) (out (Err NoName) f.buffer)) (out (Err NameTooLong) f.buffer))
           (out (Err NotWhole) f.buffer)
 
       go : (b c d : Bool)

@@ -3,7 +3,7 @@ use Rattle.std.specs.Prelude.{ℕ, ◌+◌, Bool, cond, ◌&&◌, List, leb, ltb
 use Rattle.std.specs.Prelude.{Option as Maybe}
 use Rattle.std.proofs.Math.Option.{Option, none, some}
 use Rattle.limits.specs.declared.Refusal.{Refusal}
-use Rattle.limits.specs.declared.Refusal.TheVariants.{NotWhole, NameTooLong, Damaged, Nameless, BufferFull}
+use Rattle.limits.specs.declared.Refusal.TheVariants.{NotWhole, NameTooLong, Damage, NoName, BufferFull}
 use Rattle.limits.specs.Limits.{name_limit}
 use Rattle.spans.specs.Span.{read_span, overwrite}
 use Rattle.entries.specs.Log.{entry, joined_in}
@@ -41,7 +41,7 @@ append_of buffer used name bytes =
     (cond (has_room (length buffer) used (length name) (length bytes))
     (out (Ok (used + entry_size name bytes)) (overwrite used (encoded (entry name bytes)) buffer))
     (out (Err BufferFull) buffer))
-    (out (Err Nameless) buffer))
+    (out (Err NoName) buffer))
     (out (Err NameTooLong) buffer))
     (out (Err NotWhole) buffer)
 
@@ -60,7 +60,7 @@ held_by (some bs) = stands bs
 
 -- RULES AH6. Entries that don't end where the used bytes end: one overruns them, which is 4, also behind a match
 abbrev pub held_in : List ℕ → ℕ → Met → Held
-held_in name used m = cond (eqb m.end used) (held_by (joined_in name m.entries none)) (refuses Damaged)
+held_in name used m = cond (eqb m.end used) (held_by (joined_in name m.entries none)) (refuses Damage)
 
 -- RULES AH6.
 unfoldable pub held_of : List ℕ → ℕ → List ℕ → Held

@@ -30,7 +30,7 @@ pub fn append(buffer: &mut [u8], used: usize, name: &[u8], bytes: &[u8]) -> Resu
         return Err(Refusal::NameTooLong);
     }
     if name.is_empty() {
-        return Err(Refusal::Nameless);
+        return Err(Refusal::NoName);
     }
     if !has_room(buffer, used, name, bytes) {
         return Err(Refusal::BufferFull);

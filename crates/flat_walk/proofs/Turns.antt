@@ -11,7 +11,7 @@ use Rattle.spans.specs.Span.{read_span}
 use Rattle.spans.proofs.Laws.{length_span}
 use Rattle.fastcmp.specs.Equal.{equal_bytes}
 use Rattle.std.specs.Prelude.{Some, None, Ok, Err}
-use Rattle.limits.specs.declared.Refusal.TheVariants.{Damaged}
+use Rattle.limits.specs.declared.Refusal.TheVariants.{Damage}
 use Rattle.entries.specs.declared.Entry.{Entry as Places}
 use Rattle.entries.specs.Log.{Entry, entry}
 use Rattle.entries.specs.Form.{entry_at, Inside, Met, met, in_front, entries_from, entries_of}
@@ -68,12 +68,12 @@ module _ {run name : List ℕ} {t : Tally} {at : ℕ} (G : Going run name t at) 
 
   -- no entry is left: all is well at the run's end, and only there
   stopped : entries_from G.turns run at ≡ met [] at
-      → walked name (length run) (entries_of run) None ≡ cond (eqb at (length run)) (Ok t) (Err Damaged)
+      → walked name (length run) (entries_of run) None ≡ cond (eqb at (length run)) (Ok t) (Err Damage)
   unfolding tally_in
   stopped e = G.rest ∙ ap (λ (m : Met). walked name (length run) m t) e
 
   pub going-broken : at < length run → entry_at run at ≡ None
-      → Err Damaged ≡ walked name (length run) (entries_of run) None
+      → Err Damage ≡ walked name (length run) (entries_of run) None
   going-broken g e = sym (stopped (entries_none run at G.turns e) ∙ rw (ne_eqb at (length run) (λ q. omega arith)))
 
   pub going_over : length run ≤ at → Ok t ≡ walked name (length run) (entries_of run) None

@@ -1,7 +1,7 @@
 -- The loops' own words: what has been met of a name, counted and written entry by entry.
 use Rattle.std.specs.Prelude.{ℕ, ◌+◌, cond, List, [], ◌∷◌, eqb, length, Option, Some, None, Result, Ok, Err}
 use Rattle.limits.specs.declared.Refusal.{Refusal}
-use Rattle.limits.specs.declared.Refusal.TheVariants.{Damaged}
+use Rattle.limits.specs.declared.Refusal.TheVariants.{Damage}
 use Rattle.spans.specs.Span.{overwrite}
 use Rattle.fastcmp.specs.Equal.{equal_bytes}
 use Rattle.entries.specs.Log.{Entry}
@@ -31,7 +31,7 @@ tally_in name (e ∷ es) t = tally_in name es (tally_on name e.name (length e.by
 
 -- RULES AH12. The entries must go to the run's end, also behind a match
 abbrev pub walked : List ℕ → ℕ → Met → Tally → Result Tally Refusal
-walked name len m t = cond (eqb m.end len) (Ok (tally_in name m.entries t)) (Err Damaged)
+walked name len m t = cond (eqb m.end len) (Ok (tally_in name m.entries t)) (Err Damage)
 
 -- ---- written
 

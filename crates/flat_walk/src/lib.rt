@@ -33,7 +33,7 @@ pub fn walk_run(run: &[u8], name: &[u8]) -> Result<Option<u64>, Refusal>
     // each entry tells where the next one is, so no `for`
     while at < run.len() {
         let Some(e) = entries::entry_at(run, at) else {
-            return Err(Refusal::Damaged);
+            return Err(Refusal::Damage);
         };
         met = tally_entry(met, name, &run[at + 2..e.name_end], e.to - e.from);
         at = e.to;

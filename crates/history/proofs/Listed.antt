@@ -6,10 +6,10 @@ use mathlib.Core.Bool.{false≢true}
 use mathlib.Core.List.{List, ◌∷◌, map}
 use native.Mathlib.Omega.{arith}
 use lib.ListN.{length}
-use Rattle.shared_arena_hashmap.specs.declared.Next.{Next}
-use Rattle.shared_arena_hashmap.specs.declared.Next.TheVariants.{Occupied, NoMore as NoBucket}
+use Rattle.std.specs.Prelude.{Option, Some, None}
+use Rattle.shared_arena_hashmap.specs.declared.Occupied.{Occupied}
 use Rattle.records.specs.Record.{key_at}
-use Rattle.shared_arena_hashmap.specs.Probe.{occupied_from}
+use Rattle.shared_arena_hashmap.specs.Probe.{occupied_by, occupied_from}
 use Rattle.store_look.specs.declared.Listed.{Listed}
 use Rattle.store_look.specs.declared.Listed.TheVariants.{Bucket, NoMore, Stopped}
 use Rattle.store_look.specs.declared.Counted.TheVariants.{Keys}
@@ -28,18 +28,18 @@ use Rattle.history.proofs.Readings.{lookup_finds}
 
 module _ {w : World} {G : Ghosts} (S : Sound w G) where
   -- the next bucket as the table has it
-  abbrev next : ℕ → Next
+  abbrev next : ℕ → Option Occupied
   next i = occupied_from w.memory.table (first_of w.state) (w.state.buckets - i) i
 
   -- the answer is the bucket and its record's place, or none
   record Meets (i : ℕ) : Type 0 where
     bucket : ℕ
     place : ℕ
-    met : next i ≡ Occupied bucket place
+    met : next i ≡ Some (occupied_by bucket place)
     said : next_of w.state w.memory i ≡ Bucket bucket place
     found : lookup_of w.state w.memory (key_at w.memory.keys place) ≡ At place
 
-  meets : (i : ℕ) → Meets i ⊎ ((next i ≡ NoBucket) × (next_of w.state w.memory i ≡ NoMore))
+  meets : (i : ℕ) → Meets i ⊎ ((next i ≡ None) × (next_of w.state w.memory i ≡ NoMore))
   meets i =
       ⊎_elim
       (λ r. inl (record {
@@ -48,8 +48,8 @@ module _ {w : World} {G : Ghosts} (S : Sound w G) where
         met = r.3;
         said =
             next-on w.state w.memory i S.whole
-            ∙ ap (λ (x : Next). on_next x w.state.key_arena w.memory.keys) r.3
-            ∙ next-good w.state.key_arena w.memory.keys r.0 (G.place r.1)
+            ∙ ap (λ (x : Option Occupied). on_next x w.state.key_arena w.memory.keys) r.3
+            ∙ next-good w.state.key_arena w.memory.keys (occupied_by r.0 (G.place r.1))
             (sound-records S r.1 (r.0, r.2.named)).0;
         found = ap (lookup_of w.state w.memory) (sound-records S r.1 (r.0, r.2.named)).1
             ∙ lookup_finds S r.1 (r.0, r.2.named);
@@ -57,7 +57,7 @@ module _ {w : World} {G : Ghosts} (S : Sound w G) where
       (λ r. inr (
         r.1,
         next-on w.state w.memory i S.whole
-            ∙ ap (λ (x : Next). on_next x w.state.key_arena w.memory.keys) r.1
+            ∙ ap (λ (x : Option Occupied). on_next x w.state.key_arena w.memory.keys) r.1
             ∙ next_none w.state.key_arena w.memory.keys,
       ))
       (lists-next S.table i)
@@ -70,16 +70,16 @@ module _ {w : World} {G : Ghosts} (S : Sound w G) where
       rest : ℕ → List ℕ
       rest j = listing w.memory.table (first_of w.state) w.state.buckets n j
 
-      go : Meets i ⊎ ((next i ≡ NoBucket) × (next_of w.state w.memory i ≡ NoMore))
+      go : Meets i ⊎ ((next i ≡ None) × (next_of w.state w.memory i ≡ NoMore))
           → ((j : ℕ) → listed_from w n j ≡ rest j)
           → listed_on (next_of w.state w.memory i) (λ j. listed_from w n j) ≡ listed_next (next i) (λ j. rest j)
       go (inl r) ih =
           ap (λ (x : Listed). listed_on x (λ j. listed_from w n j)) r.said
           ∙ ap (λ (l : List ℕ). r.place ∷ l) (ih (r.bucket + 1))
-          ∙ sym (ap (λ (x : Next). listed_next x (λ j. rest j)) r.met)
+          ∙ sym (ap (λ (x : Option Occupied). listed_next x (λ j. rest j)) r.met)
       go (inr r) ih =
           ap (λ (x : Listed). listed_on x (λ j. listed_from w n j)) r.1
-          ∙ sym (ap (λ (x : Next). listed_next x (λ j. rest j)) r.0)
+          ∙ sym (ap (λ (x : Option Occupied). listed_next x (λ j. rest j)) r.0)
 
   names_are : listed_names w ≡ in_order G.names
   names_are =
@@ -89,7 +89,7 @@ module _ {w : World} {G : Ghosts} (S : Sound w G) where
   never_stopped : (i n : ℕ) → next_of w.state w.memory i ≡ Stopped n → ⊥
   never_stopped i n e = go (meets i)
     where
-      go : Meets i ⊎ ((next i ≡ NoBucket) × (next_of w.state w.memory i ≡ NoMore)) → ⊥
+      go : Meets i ⊎ ((next i ≡ None) × (next_of w.state w.memory i ≡ NoMore)) → ⊥
       go (inl r) = let q = r.said in let z : ◌≡◌ {A = ℕ} 0 1 = cc in omega arith
       go (inr r) = let q = r.1 in let z : ◌≡◌ {A = ℕ} 0 1 = cc in omega arith
 
@@ -97,7 +97,7 @@ module _ {w : World} {G : Ghosts} (S : Sound w G) where
       → lookup_of w.state w.memory (key_at w.memory.keys at) ≡ At at
   there i b at e = go (meets i)
     where
-      go : Meets i ⊎ ((next i ≡ NoBucket) × (next_of w.state w.memory i ≡ NoMore))
+      go : Meets i ⊎ ((next i ≡ None) × (next_of w.state w.memory i ≡ NoMore))
           → lookup_of w.state w.memory (key_at w.memory.keys at) ≡ At at
       go (inl r) =
           let q : Bucket b at ≡ Bucket r.bucket r.place = sym e ∙ r.said in

@@ -16,7 +16,8 @@ use Rattle.spans.specs.Span.{read_span, overwrite}
 use Rattle.shared_arena_hashmap.specs.declared.Met.TheVariants.{Empty, Standing, Lap}
 use Rattle.expull_header.specs.declared.Header.{Header}
 use Rattle.expull_walk.specs.declared.Block.{Block as BlockFound}
-use Rattle.expull_walk.specs.declared.Block.TheVariants.{NoBlock}
+use Rattle.std.specs.Prelude.{Option as Maybe, Result, Ok, None}
+use Rattle.limits.specs.declared.Refusal.{Refusal}
 use Rattle.expull_header.specs.Header.{lane_length, block_count}
 use Rattle.expull_walk.specs.Blocks.{lane_bytes, good_blocks, block_place, block_length, block_of}
 use Rattle.store_state.specs.declared.State.{State}
@@ -96,7 +97,7 @@ module _ {w : World} {G : Ghosts} (S : Sound w G) (name : List ℕ) where
         (reading (Refused 8 (long i)) output))
 
     -- a block
-    block_said : (i : ℕ) (b : BlockFound) → block_of st.list_arena m.lists h i ≡ b
+    block_said : (i : ℕ) (b : Result (Maybe BlockFound) Refusal) → block_of st.list_arena m.lists h i ≡ b
         → find_block_of st m name i ≡ on_block b
     block_said i b e = sym (block_at_lem st m name i at lookup_finds) ∙ block_found st m i at h headed ∙ ap on_block e
 
@@ -105,7 +106,7 @@ module _ {w : World} {G : Ghosts} (S : Sound w G) (name : List ℕ) where
     block_there i l = block_said i _ (lane_block m.lists st.list_arena h (G.blocks name) lane i l).told
 
     pub block_past : (i : ℕ) → block_count h ≤ i → find_block_of st m name i ≡ Found NoSuchBlock
-    block_past i l = block_said i NoBlock (lane_no_block m.lists st.list_arena h i l)
+    block_past i l = block_said i (Ok None) (lane_no_block m.lists st.list_arena h i l)
 
     shown_block : (k : ℕ) → k < block_count h
         → shown_of w (find_block_of st m name k)

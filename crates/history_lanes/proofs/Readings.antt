@@ -19,7 +19,7 @@ use Rattle.memory_arena.specs.Address.{place_of}
 use Rattle.memory_arena.specs.Pages.{standing, good_span}
 use Rattle.memory_arena.proofs.Laws.{standing_facts, good-below, good_shorter, good-in}
 use Rattle.expull_header.specs.declared.Header.{Header}
-use Rattle.expull_walk.specs.declared.Block.TheVariants.{NoBlock}
+use Rattle.std.specs.Prelude.{None, Ok}
 use Rattle.expull_header.specs.Header.{block_size, sound_header, block_count, full_bytes, lane_length}
 use Rattle.expull_append.specs.Append.{good_tail}
 use Rattle.expull_walk.specs.Blocks.{block_place, good_blocks, full_blocks, lane_bytes, block_length, block_of}
@@ -246,7 +246,7 @@ lane_block m a h ks L i k = record {
 }
 
 -- past the last there is no such block
-pub lane_no_block : (m : List ℕ) (a : Arena) (h : Header) (i : ℕ) → block_count h ≤ i → block_of a m h i ≡ NoBlock
+pub lane_no_block : (m : List ℕ) (a : Arena) (h : Header) (i : ℕ) → block_count h ≤ i → block_of a m h i ≡ Ok None
 unfolding block_of
 lane_no_block m a h i k = rw (le-leb (block_count h) i k)
 

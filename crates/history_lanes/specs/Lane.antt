@@ -10,10 +10,10 @@ use Rattle.memory_arena.specs.declared.Arena.{Arena}
 use Rattle.memory_arena.specs.Address.{address_of, place_of}
 use Rattle.memory_arena.specs.Pages.{standing, good_span}
 use Rattle.expull_header.specs.declared.Header.{Header}
-use Rattle.expull_walk.specs.declared.Block.TheVariants.{BlockAt}
+use Rattle.std.specs.Prelude.{Some, Ok}
 use Rattle.expull_header.specs.Header.{block_size, sound_header}
 use Rattle.expull_append.specs.Append.{Writing}
-use Rattle.expull_walk.specs.Blocks.{block_place, block_length, block_of}
+use Rattle.expull_walk.specs.Blocks.{block_place, block_length, block_told, block_of}
 
 -- ---- the blocks
 
@@ -162,7 +162,7 @@ pub record HeaderFits (h : Header) : Type 0 where
 
 -- finding block i tells its place and how many bytes stand in it, and these are a good span
 pub record FoundBlock (m : List ℕ) (a : Arena) (h : Header) (i : ℕ) : Type 0 where
-  pub told : block_of a m h i ≡ BlockAt (block_place m h.head i) (block_length h i)
+  pub told : block_of a m h i ≡ Ok (Some (block_told m h i))
   pub good : good_span a (block_place m h.head i) (block_length h i) ≡ true
 
 -- the spans that finding the first k blocks tells, read one after the other

@@ -14,11 +14,11 @@ use lib.ListN.{length, drop, drop_of_length-le, get_or-eq_default}
 use lib.Seq.{drop-cons, get_or-drop}
 use Rattle.fastcmp.proofs.Laws.{equal_same, equal_not}
 use Rattle.memory_arena.specs.declared.Arena.{Arena}
-use Rattle.shared_arena_hashmap.specs.declared.Next.{Next}
-use Rattle.shared_arena_hashmap.specs.declared.Next.TheVariants.{Occupied, NoMore}
+use Rattle.std.specs.Prelude.{Option as Maybe, Some, None}
+use Rattle.shared_arena_hashmap.specs.declared.Occupied.{Occupied}
 use Rattle.shared_arena_hashmap.specs.Buckets.{address_at, empty_at}
 use Rattle.records.specs.Record.{key_at}
-use Rattle.shared_arena_hashmap.specs.Probe.{occupied_from}
+use Rattle.shared_arena_hashmap.specs.Probe.{occupied_by, occupied_from}
 use Rattle.history_names.specs.Table.{Names, name_at, Member, occupied, Shows, Table, Records}
 use Rattle.history_names.specs.Listing.{FirstName, NoName, in_order, times, listed_next, listing}
 use Rattle.history_names.proofs.Walk.{named-below, clash, renamed}
@@ -82,19 +82,19 @@ order_back (some k ∷ g) adr f h = λ i. h k (0, refl) i ∷ order_back g adr f
 -- ---- the next name
 
 next-turn : (t : List ℕ) (first n i : ℕ) (b : Bool) → empty_at t (first + i) ≡ b
-    → occupied_from t first (suc n) i ≡ cond b (occupied_from t first n (i + 1)) (Occupied i (address_at t (first + i)))
+    → occupied_from t first (suc n) i ≡ cond b (occupied_from t first n (i + 1)) (Some (occupied_by i (address_at t (first + i))))
 unfolding occupied_from
 next-turn t first n i b e =
-    ap (λ (b : Bool). cond b (occupied_from t first n (i + 1)) (Occupied i (address_at t (first + i)))) e
+    ap (λ (b : Bool). cond b (occupied_from t first n (i + 1)) (Some (occupied_by i (address_at t (first + i))))) e
 
-next-end : (t : List ℕ) (first i : ℕ) → occupied_from t first zero i ≡ NoMore
+next-end : (t : List ℕ) (first i : ℕ) → occupied_from t first zero i ≡ None
 unfolding occupied_from
 next-end t first i = refl
 
-listing-turn : (t : List ℕ) (first l n i : ℕ) (x : Next) → occupied_from t first (l - i) i ≡ x
+listing-turn : (t : List ℕ) (first l n i : ℕ) (x : Maybe Occupied) → occupied_from t first (l - i) i ≡ x
     → listing t first l (suc n) i ≡ listed_next x (λ j. listing t first l n j)
 unfolding listing
-listing-turn t first l n i x e = ap (λ (x : Next). listed_next x (λ j. listing t first l n j)) e
+listing-turn t first l n i x e = ap (λ (x : Maybe Occupied). listed_next x (λ j. listing t first l n j)) e
 
 listing-end : (t : List ℕ) (first l i : ℕ) → listing t first l zero i ≡ []
 unfolding listing
@@ -102,8 +102,8 @@ listing-end t first l i = refl
 
 module _ {t : List ℕ} {first l : ℕ} {hash adr : List ℕ → ℕ} {g : Names} (T : Table t first l hash adr g) where
   abbrev Meets : ℕ → ℕ → Type 0
-  Meets n i = ((j : ℕ) × (k : List ℕ) × FirstName g i j k × (occupied_from t first n i ≡ Occupied j (adr k)))
-      ⊎ (NoName g i × (occupied_from t first n i ≡ NoMore))
+  Meets n i = ((j : ℕ) × (k : List ℕ) × FirstName g i j k × (occupied_from t first n i ≡ Some (occupied_by j (adr k))))
+      ⊎ (NoName g i × (occupied_from t first n i ≡ None))
 
   meets : (n i : ℕ) → n ≡ l - i → Meets n i
   meets zero i e = inr ((λ x h. get_or-eq_default g none (omega (arith, T.long))), next-end t first i)
@@ -138,14 +138,14 @@ module _ {t : List ℕ} {first l : ℕ} {hash adr : List ℕ → ℕ} {g : Names
             i,
             k,
             record { from = omega arith; named = p; least = λ x h q. absurd (omega arith) },
-            next-turn t first n i false (named-bucket T i k p) ∙ ap (Occupied i) s.0,
+            next-turn t first n i false (named-bucket T i k p) ∙ ap (λ (at : ℕ). Some (occupied_by i at)) s.0,
           )
 
   -- the next occupied bucket from i is the first with a name, and its record is the name's; there is none where no name
   -- stands
   pub lists-next : (i : ℕ)
-      → ((j : ℕ) × (k : List ℕ) × FirstName g i j k × (occupied_from t first (l - i) i ≡ Occupied j (adr k)))
-      ⊎ (NoName g i × (occupied_from t first (l - i) i ≡ NoMore))
+      → ((j : ℕ) × (k : List ℕ) × FirstName g i j k × (occupied_from t first (l - i) i ≡ Some (occupied_by j (adr k))))
+      ⊎ (NoName g i × (occupied_from t first (l - i) i ≡ None))
   lists-next i = meets (l - i) i refl
 
   listing_from : (n i : ℕ) → l ≤ n + i → listing t first l n i ≡ map adr (in_order (drop i g))
@@ -155,10 +155,10 @@ module _ {t : List ℕ} {first l : ℕ} {hash adr : List ℕ → ℕ} {g : Names
       go : Meets (l - i) i → ((j : ℕ) → l ≤ n + j → listing t first l n j ≡ map adr (in_order (drop j g)))
           → listing t first l (suc n) i ≡ map adr (in_order (drop i g))
       go (inl r) ih =
-          listing-turn t first l n i (Occupied r.0 (adr r.1)) r.3
+          listing-turn t first l n i (Some (occupied_by r.0 (adr r.1))) r.3
           ∙ ap (λ (rest : List ℕ). adr r.1 ∷ rest) (ih (r.0 + 1) (omega (arith, r.2.from)))
           ∙ sym (ap (map adr) (order_first g (r.0 - i) i r.0 r.1 (omega (arith, r.2.from)) r.2))
-      go (inr r) ih = rw (order_end g i r.0, listing-turn t first l n i NoMore r.1)
+      go (inr r) ih = rw (order_end g i r.0, listing-turn t first l n i None r.1)
 
   -- going through from bucket 0 gives the addresses of all names' records in bucket order
   pub lists-all : listing t first l l 0 ≡ map adr (in_order g)

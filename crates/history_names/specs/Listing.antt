@@ -1,10 +1,9 @@
 -- Document 01, "Buckets": "Listing goes in bucket order: the next occupied bucket from i, or none". What it meets, in
 -- terms of the names that a table stands for, and what going through the whole table collects.
-use Rattle.std.specs.Prelude.{ℕ, zero, suc, ◌+◌, ◌-◌, ◌≤◌, ◌<◌, ◌≡◌, cond, List, [], ◌∷◌}
+use Rattle.std.specs.Prelude.{ℕ, zero, suc, ◌+◌, ◌-◌, ◌≤◌, ◌<◌, ◌≡◌, cond, List, [], ◌∷◌, Option, Some, None}
 use Rattle.std.proofs.Math.Option.{none, some}
 use Rattle.fastcmp.specs.Equal.{equal_bytes}
-use Rattle.shared_arena_hashmap.specs.declared.Next.{Next}
-use Rattle.shared_arena_hashmap.specs.declared.Next.TheVariants.{Occupied, NoMore}
+use Rattle.shared_arena_hashmap.specs.declared.Occupied.{Occupied}
 use Rattle.shared_arena_hashmap.specs.Probe.{occupied_from}
 use Rattle.history_names.specs.Table.{Names, name_at}
 
@@ -31,9 +30,9 @@ times k [] = 0
 times k (n ∷ ns) = cond (equal_bytes k n) (suc (times k ns)) (times k ns)
 
 -- the address of the record that is met, and what the way on from the bucket behind it collects
-abbrev pub listed_next : Next → (ℕ → List ℕ) → List ℕ
-listed_next NoMore rest = []
-listed_next (Occupied j address) rest = address ∷ rest (j + 1)
+abbrev pub listed_next : Option Occupied → (ℕ → List ℕ) → List ℕ
+listed_next None rest = []
+listed_next (Some o) rest = o.place ∷ rest (o.bucket + 1)
 
 -- a way through the table by at most n questions for the next occupied bucket, the first of them from bucket i: the
 -- record addresses

@@ -15,15 +15,12 @@ use Rattle.spans.specs.Span.{read_span, overwrite}
 use Rattle.spans.proofs.Laws.{span_none, overwrite_none}
 use Rattle.memory_arena.specs.declared.Arena.{Arena}
 use Rattle.expull_header.specs.declared.Header.{Header}
-use Rattle.expull_walk.specs.declared.Block.{Block}
-use Rattle.expull_walk.specs.declared.Block.TheVariants.{BlockAt}
-use Rattle.expull_walk.specs.contracts.Block.{the_type}
-use Rattle.expull_walk.specs.declared.Walked.{Walked}
-use Rattle.expull_walk.specs.declared.Walked.TheVariants.{To, Stopped}
+use Rattle.std.specs.Prelude.{Option, Some, None}
+use Rattle.std.specs.Option.{is_some}
 use Rattle.expull_header.specs.Header.{block_count, full_bytes, lane_length}
-use Rattle.expull_walk.specs.Blocks.{block_place, good_blocks, lane_bytes, block_length, block_of}
-use Rattle.expull_header.proofs.Laws.{full-more, length_most}
-use Rattle.expull_walk.proofs.Laws.{blocks_fewer, find_bad, find_at}
+use Rattle.expull_walk.specs.Blocks.{block_place, good_blocks, lane_bytes, place_of}
+use Rattle.expull_header.proofs.Laws.{sound_facts, full-more, length_most}
+use Rattle.expull_walk.proofs.Laws.{blocks_fewer, place_good, place_bad}
 use Rattle.store_state.specs.declared.State.{State}
 use Rattle.store_look.specs.declared.Lookup.{Lookup}
 use Rattle.store_look.specs.declared.Lookup.TheVariants.{At, Missing, Failed}
@@ -83,7 +80,7 @@ module _ {a : Arena} {m : List ℕ} {first given n room : ℕ} (k : Going a m fi
 -- what it answers
 module _ (a : Arena) (m : List ℕ) (first place given n : ℕ) (output : List ℕ) where
   pub gone-stopped : {end : ℕ} → end ≡ blocks_met given n → good_on a m first place (end - first) ≡ false
-      → went Stopped output ≡ gone_on a m first place given n output
+      → went None output ≡ gone_on a m first place given n output
   unfolding gone_on
   gone-stopped e g =
       let h : good_on a m first place (blocks_met given n - first) ≡ false = rw (← e) g in
@@ -93,11 +90,11 @@ module _ (a : Arena) (m : List ℕ) (first place given n : ℕ) (output : List �
       → good_on a m first place (end - first) ≡ true → skip ≡ given - full_bytes first
       → last ≡ last_on m first place place (end - first)
       → output' ≡ overwrite 0 (read_span skip n (bytes_on m first place (end - first))) output
-      → went (To last) output' ≡ gone_on a m first place given n output
+      → went (Some last) output' ≡ gone_on a m first place given n output
   unfolding gone_on
   gone_done e g f p q =
       let h : good_on a m first place (blocks_met given n - first) ≡ true = rw (← e) g in
-      rw h (λ i. went (To ((rw e at p) i)) ((rw (e, f) at q) i))
+      rw h (λ i. went (Some ((rw e at p) i)) ((rw (e, f) at q) i))
 
   -- and what that says
   abbrev good_all : Bool
@@ -109,30 +106,30 @@ module _ (a : Arena) (m : List ℕ) (first place given n : ℕ) (output : List �
   abbrev place_all : ℕ
   place_all = last_on m first place place (blocks_met given n - first)
 
-  pub record Gone (w : Walked) (output' : List ℕ) : Type 0 where
-    pub stopped : w ≡ Stopped → (good_all ≡ false) × (output' ≡ output)
-    pub come : (last : ℕ) → w ≡ To last
+  pub record Gone (w : Option ℕ) (output' : List ℕ) : Type 0 where
+    pub stopped : w ≡ None → (good_all ≡ false) × (output' ≡ output)
+    pub come : (last : ℕ) → w ≡ Some last
         → (good_all ≡ true) × ((last ≡ place_all) × (output' ≡ overwrite 0 bytes_all output))
 
-  pub gone-said : {w : Walked} {output' : List ℕ} → went w output' ≡ gone_on a m first place given n output
+  pub gone-said : {w : Option ℕ} {output' : List ℕ} → went w output' ≡ gone_on a m first place given n output
       → Gone w output'
   unfolding gone_on
   gone-said {w} {output'} e = go good_all refl e
     where
       go : (b : Bool) → good_all ≡ b
-          → went w output' ≡ cond b (went (To place_all) (overwrite 0 bytes_all output)) (went Stopped output)
+          → went w output' ≡ cond b (went (Some place_all) (overwrite 0 bytes_all output)) (went None output)
           → Gone w output'
       go true g q =
-          let x : w ≡ To place_all = ap (λ (y : Went). y.walked) q in
+          let x : w ≡ Some place_all = ap (λ (y : Went). y.walked) q in
           record {
-            stopped = λ f. let z : ◌≡◌ {A = ℕ} 0 1 = cc in absurd (omega arith);
+            stopped = λ f. cc;
             come = λ last f. let z : last ≡ place_all = cc in (g, (z, ap (λ (y : Went). y.output) q));
           }
       go false g q =
-          let x : w ≡ Stopped = ap (λ (y : Went). y.walked) q in
+          let x : w ≡ None = ap (λ (y : Went). y.walked) q in
           record {
             stopped = λ f. (g, ap (λ (y : Went). y.output) q);
-            come = λ last f. let z : ◌≡◌ {A = ℕ} 0 1 = cc in absurd (omega arith);
+            come = λ last f. cc;
           }
 
 -- ---- from a lane's head
@@ -155,6 +152,9 @@ module _ {a : Arena} {m : List ℕ} {h : Header} {given n room : ℕ} (k : Withi
   pub within_short : given + n ≤ 4587094008
   within_short = omega (arith, k.in_lane, length_most h k.sound)
 
+  pub within_few : {first : ℕ} → first ≡ block_holding given → first < number_limit
+  within_few e = omega (arith, e, within_first.0, (sound_facts h 0 k.sound).to)
+
   pub within-going : {first : ℕ} → first ≡ block_holding given → Going a m first given n room
   within-going e =
       let b : full_bytes (block_holding given) ≤ given = (holding given).below in
@@ -173,9 +173,11 @@ module _ {a : Arena} {m : List ℕ} {h : Header} {given n room : ℕ} (k : Withi
   put_false g e = record { told = sym g; left = rw g e }
 
   -- the block in which they begin is bad, or one before it
-  pub put_bad : {first : ℕ} {b : Block} {output : List ℕ} → first ≡ block_holding given → b ≡ block_of a m h first
-      → OneOf (1 ∷ 2 ∷ []) (tag_of the_type b) → Put a m h given n output false output
-  put_bad {first} {b} {output} e f o = go (good_blocks a m h.head (suc (block_holding given))) refl
+  pub put_bad : {first : ℕ} {output : List ℕ} → first ≡ block_holding given → place_of a m h.head first ≡ None
+      → Put a m h given n output false output
+  put_bad {first} e f =
+      let g : good_blocks a m h.head (suc (block_holding given)) ≡ false = rw e at (place_bad a m h.head first f) in
+      put_false (worse g (good_blocks a m h.head (blocks_met given n)) refl) refl
     where
       worse : good_blocks a m h.head (suc (block_holding given)) ≡ false
           → (t : Bool) → good_blocks a m h.head (blocks_met given n) ≡ t
@@ -185,26 +187,10 @@ module _ {a : Arena} {m : List ℕ} {h : Header} {given n room : ℕ} (k : Withi
           (blocks_fewer a m h.head (suc (block_holding given)) (blocks_met given n) within_first.1 q) g
       worse g false q = q
 
-      go : (t : Bool) → good_blocks a m h.head (suc (block_holding given)) ≡ t → Put a m h given n output false output
-      go true g =
-          let q : b ≡ BlockAt (block_place m h.head (block_holding given)) (block_length h (block_holding given)) =
-          f ∙ ap (block_of a m h) e ∙ find_at a m h (block_holding given) within_first.0 g in
-          absurd (miss (1 ∷ 2 ∷ []) 0 tt (subst (λ (x : Block). OneOf (1 ∷ 2 ∷ []) (tag_of the_type x)) q o))
-      go false g = put_false (worse g (good_blocks a m h.head (blocks_met given n)) refl) refl
-
-  -- it is found: then the blocks from there on decide
-  module _ {first place long : ℕ} {b : Block} (e : first ≡ block_holding given) (f : b ≡ block_of a m h first)
-      (q : b ≡ BlockAt place long) where
+  -- it has a place: then the blocks from there on decide
+  module _ {first place : ℕ} (e : first ≡ block_holding given) (f : place_of a m h.head first ≡ Some place) where
     put-found : (good_blocks a m h.head (suc first) ≡ true) × (place ≡ block_place m h.head first)
-    put-found = go (good_blocks a m h.head (suc first)) refl
-      where
-        few : first < block_count h
-        few = rw e within_first.0
-
-        go : (t : Bool) → good_blocks a m h.head (suc first) ≡ t
-            → (good_blocks a m h.head (suc first) ≡ true) × (place ≡ block_place m h.head first)
-        go true g = let p = find_at a m h first few g in let z : place ≡ block_place m h.head first = cc in (g, z)
-        go false g = let p = find_bad a m h first few g in let z : ◌≡◌ {A = ℕ} 0 1 = cc in absurd (omega arith)
+    put-found = place_good a m h.head first place f
 
     put-parts : first + (blocks_met given n - first) ≡ blocks_met given n
     put-parts = omega (arith, e, within_first.1)
@@ -216,14 +202,14 @@ module _ {a : Arena} {m : List ℕ} {h : Header} {given n room : ℕ} (k : Withi
         ∙ good-on a m h.head first (blocks_met given n - first)
         ∙ rw (g, put-found.1)
 
-    pub put-stopped : {output output' : List ℕ} {w : Walked} → went w output' ≡ gone_on a m first place given n output
-        → w ≡ Stopped → Put a m h given n output false output'
+    put-stopped : {output output' : List ℕ} {w : Option ℕ} → went w output' ≡ gone_on a m first place given n output
+        → w ≡ None → Put a m h given n output false output'
     put-stopped {output} {output'} {w} g s =
         let p = (gone-said a m first place given n output g).stopped s in
         put_false (put_decides ∙ p.0) p.1
 
-    pub put_done : {output output' : List ℕ} {w : Walked} (last : ℕ)
-        → went w output' ≡ gone_on a m first place given n output → w ≡ To last → Put a m h given n output true output'
+    put_done : {output output' : List ℕ} {w : Option ℕ} (last : ℕ)
+        → went w output' ≡ gone_on a m first place given n output → w ≡ Some last → Put a m h given n output true output'
     put_done {output} {output'} {w} last g s =
         let p = (gone-said a m first place given n output g).come last s in
         let good : good_blocks a m h.head (blocks_met given n) ≡ true = put_decides ∙ p.0 in
@@ -237,6 +223,11 @@ module _ {a : Arena} {m : List ℕ} {h : Header} {given n room : ℕ} (k : Withi
           told = sym good;
           left = rw good (p.1.1 ∙ rw put-found.1 (ap (λ (x : List ℕ). overwrite 0 x output) (sym (rw z at l))));
         }
+
+    pub put-on : {output output' : List ℕ} (w : Option ℕ) → went w output' ≡ gone_on a m first place given n output
+        → Put a m h given n output (is_some w) output'
+    put-on None g = put-stopped g refl
+    put-on (Some last) g = put_done last g refl
 
 -- ---- the answers of a standing lane
 

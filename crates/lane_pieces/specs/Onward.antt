@@ -7,8 +7,7 @@ use Rattle.spans.specs.Span.{read_span, overwrite}
 use Rattle.memory_arena.specs.declared.Arena.{Arena}
 use Rattle.memory_arena.specs.Pages.{good_span}
 use Rattle.memory_arena.specs.Calls.{sensible}
-use Rattle.expull_walk.specs.declared.Walked.{Walked}
-use Rattle.expull_walk.specs.declared.Walked.TheVariants.{To, Stopped}
+use Rattle.std.specs.Prelude.{Option, Some, None}
 use Rattle.expull_header.specs.declared.Header.{Header}
 use Rattle.expull_header.specs.Header.{block_size, full_bytes, sound_header, lane_length}
 use Rattle.expull_walk.specs.Blocks.{good_blocks, lane_bytes}
@@ -63,10 +62,10 @@ pub record Copyable (m : List ℕ) (first end place skip n room : ℕ) : Type 0 
 
 -- RULES AD6. Where it came to, and the output as it leaves it.
 pub record Went : Type 0 where
-  pub walked : Walked
+  pub walked : Option ℕ
   pub output : List ℕ
 
-abbrev pub went : Walked → List ℕ → Went
+abbrev pub went : Option ℕ → List ℕ → Went
 went w o = record { walked = w; output = o }
 
 -- RULES AD6. The blocks from `first` on, which lies at a place, up to the last that it gives bytes of are met; then the
@@ -75,9 +74,9 @@ unfoldable pub gone_on : Arena → List ℕ → ℕ → ℕ → ℕ → ℕ → 
 unfolding good_on bytes_on last_on read_span overwrite full_bytes blocks_met
 gone_on a m first place given n output =
     cond (good_on a m first place (blocks_met given n - first))
-    (went (To (last_on m first place place (blocks_met given n - first)))
+    (went (Some (last_on m first place place (blocks_met given n - first)))
     (overwrite 0 (read_span (given - full_bytes first) n (bytes_on m first place (blocks_met given n - first))) output))
-    (went Stopped output)
+    (went None output)
 
 -- RULES AD6. What is asked of it: block `first` is the one behind whose bytes those given end.
 pub record Going (a : Arena) (m : List ℕ) (first given n room : ℕ) : Type 0 where

@@ -21,9 +21,7 @@ ghost use Rattle.lane_pieces.specs.Onward.{good_on, bytes_on, last_on, Copyable,
 ghost use Rattle.lane_pieces.specs.Said.{said_pieced};
 
 use expull_header::Header;
-use expull_walk::{Block, Walked};
 use memory_arena::Arena;
-use records::Head;
 use store_look::Lookup;
 use store_state::State;
 
@@ -81,14 +79,12 @@ fn are_good_on(lists: &[u8], arena: Arena, first: u32, end: u32, place: u32) -> 
     ensures { result ≡ good_on arena lists.now first place (end - first) }
 {
     let mut b = place;
-    let mut i = first;
-    while i < end {
+    for i in first..end {
         let size = expull_header::get_block_size(i + 3) as usize;
         if !arena.is_good_span(b, size + limits::LINK) {
             return false;
         }
         b = spans::get_u32(lists, b as usize + size);
-        i += 1;
     }
     true
 }
@@ -111,19 +107,17 @@ fn copy_on(
 {
     let mut b = place;
     let mut last = place;
-    let mut i = first;
     let mut from = skip;
     let mut at = 0;
-    while i < end {
+    for i in first..end {
         let size = expull_header::get_block_size(i + 3) as usize;
-        let k = numbers::long::least((size - from) as u64, (n - at) as u64) as usize;
+        let k = (size - from).min(n - at);
         let start = b as usize;
         let s = start + from;
         let e = s + k;
         fastcpy::copy_in(output, at, &lists[s..e]);
         last = b;
         b = spans::get_u32(lists, start + size);
-        i += 1;
         from = 0;
         at += k;
     }
@@ -131,7 +125,8 @@ fn copy_on(
 }
 
 // N bytes behind those given so far, to the front of the output, from block `first` on, which lies at a place: the
-// blocks up to the last of these bytes are met, then the bytes copied. Answers where that last block lies.
+// blocks up to the last of these bytes are met, then the bytes copied. Answers where that last block lies; none where one
+// on the way isn't a good span.
 pub fn go_on(
     lists: &[u8],
     arena: Arena,
@@ -140,7 +135,7 @@ pub fn go_on(
     given: u64,
     n: usize,
     output: &mut [u8],
-) -> Walked
+) -> Option<u32>
     requires { Going arena lists.now first given n (length output.old) }
     ensures { went result output.new
         ≡ gone_on arena lists.now first place given n output.old }
@@ -148,11 +143,11 @@ pub fn go_on(
     let last = given + n as u64 - 1;
     let end = block_holding(last) + 1;
     if !are_good_on(lists, arena, first, end, place) {
-        return Walked::Stopped;
+        return None;
     }
     let before = full_bytes(first);
     let skip = (given - before) as usize;
-    Walked::To(copy_on(lists, first, end, place, skip, n, output))
+    Some(copy_on(lists, first, end, place, skip, n, output))
 }
 
 // ---- a piece
@@ -164,15 +159,10 @@ fn put_piece(lists: &[u8], arena: Arena, h: Header, given: u64, n: usize, output
     ensures { Put arena lists.now h given n output.old result output.new }
 {
     let first = block_holding(given);
-    let found = expull_walk::find_block(lists, arena, h, first as usize);
-    let Block::BlockAt(place, _) = found else {
+    let Some(place) = expull_walk::find_place(lists, arena, h.head, first) else {
         return false;
     };
-    let came = go_on(lists, arena, first, place, given, n, output);
-    let Walked::To(_) = came else {
-        return false;
-    };
-    true
+    go_on(lists, arena, first, place, given, n, output).is_some()
 }
 
 // A piece of a standing lane, whose record is at a place.
@@ -189,8 +179,7 @@ fn piece_at(
     ensures { out result output.new
         ≡ piece_at arena keys.now lists.now given at output.old }
 {
-    let head = records::get_head(keys, at);
-    let Head::Sound(h) = head else {
+    let Some(h) = records::get_head(keys, at) else {
         return Pieced::Refused(4, 0);
     };
     let length = expull_header::lane_length(h);
@@ -202,7 +191,7 @@ fn piece_at(
     if room == 0 {
         return Pieced::Refused(8, length);
     }
-    let n = numbers::long::least(room, length - given);
+    let n = room.min(length - given);
     if n == 0 {
         return Pieced::Given(0);
     }

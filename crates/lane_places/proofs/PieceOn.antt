@@ -17,8 +17,7 @@ use Rattle.spans.proofs.Laws.{span_none, overwrite_none}
 use Rattle.memory_arena.specs.declared.Arena.{Arena}
 use Rattle.memory_arena.specs.Calls.{sensible}
 use Rattle.expull_header.specs.declared.Header.{Header}
-use Rattle.expull_walk.specs.declared.Walked.{Walked}
-use Rattle.expull_walk.specs.declared.Walked.TheVariants.{To, Stopped}
+use Rattle.std.specs.Prelude.{Option, Some, None}
 use Rattle.expull_header.specs.Header.{sound_header, full_bytes, lane_length}
 use Rattle.expull_header.proofs.Laws.{length_most}
 use Rattle.store_state.specs.declared.State.{State}
@@ -92,15 +91,15 @@ module _ (a : Arena) (lists : List ℕ) (h : Header) (p : Place) (n : ℕ) (outp
   }
   place_some z = rw (ne_eqb n 0 (λ q. omega arith))
 
-  pub gone-stopped : {place : ℕ} {w : Walked} {output' : List ℕ} → place ≡ block_at h p
-      → went w output' ≡ gone_on a lists p.index place p.given n output → w ≡ Stopped
+  pub gone-stopped : {place : ℕ} {w : Option ℕ} {output' : List ℕ} → place ≡ block_at h p
+      → went w output' ≡ gone_on a lists p.index place p.given n output → w ≡ None
       → out (Refused 4 0) p output' ≡ gone_from a lists h p n output
   gone-stopped {place} {w} {output'} e g s =
       let k = (gone-said a lists p.index place p.given n output g).stopped s in
       ap (λ (o : List ℕ). out (Refused 4 0) p o) k.1 ∙ sym (gone_bad (rw e at k.0))
 
-  pub gone_done : {place last index : ℕ} {w : Walked} {output' : List ℕ} → 0 < n → place ≡ block_at h p
-      → went w output' ≡ gone_on a lists p.index place p.given n output → w ≡ To last
+  pub gone_done : {place last index : ℕ} {w : Option ℕ} {output' : List ℕ} → 0 < n → place ≡ block_at h p
+      → went w output' ≡ gone_on a lists p.index place p.given n output → w ≡ Some last
       → index ≡ block_holding (p.given + n - 1)
       → out (Given n) (record { index = index; block = last; given = p.given + n }) output'
       ≡ gone_from a lists h p n output

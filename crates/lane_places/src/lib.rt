@@ -17,10 +17,8 @@ ghost use Rattle.lane_places.specs.PieceOn.{beginning, fits_length, block_at, ou
 ghost use Rattle.lane_places.specs.PieceOn.{piece_on_of};
 
 use expull_header::Header;
-use expull_walk::Walked;
 use lane_pieces::Pieced;
 use memory_arena::Arena;
-use records::Head;
 use store_look::Lookup;
 use store_state::State;
 
@@ -98,8 +96,7 @@ fn go_from(lists: &[u8], arena: Arena, h: Header, p: Place, n: usize, output: &m
 {
     let first = p.index;
     let place = block_at(h, p);
-    let came = lane_pieces::go_on(lists, arena, first, place, p.given, n, output);
-    let Walked::To(last) = came else {
+    let Some(last) = lane_pieces::go_on(lists, arena, first, place, p.given, n, output) else {
         return stays(Pieced::Refused(4, 0), p);
     };
     let given = p.given + n as u64;
@@ -126,8 +123,7 @@ fn piece_on_at(
     ensures { out_of result output.new
         ≡ piece_on_at arena keys.now lists.now p at output.old }
 {
-    let head = records::get_head(keys, at);
-    let Head::Sound(h) = head else {
+    let Some(h) = records::get_head(keys, at) else {
         return stays(Pieced::Refused(4, 0), p);
     };
     let length = expull_header::lane_length(h);
@@ -138,7 +134,7 @@ fn piece_on_at(
     if room == 0 {
         return stays(Pieced::Refused(8, length), p);
     }
-    let n = numbers::long::least(room, length - p.given);
+    let n = room.min(length - p.given);
     if n == 0 {
         return stays(Pieced::Given(0), p);
     }

@@ -4,9 +4,9 @@
 use Rattle.std.specs.Prelude.{ℕ, ◌≡◌, Bool, true, false, ◌||◌, List, [], ◌∷◌, eqb}
 use Rattle.std.proofs.Common.{sym, ◌∙◌}
 use Rattle.limits.specs.declared.Refusal.{Refusal}
-use Rattle.limits.specs.declared.Refusal.TheVariants.{NotCreatable, NotWhole, NameTooLong, Damaged, TableFull, KeysFull}
+use Rattle.limits.specs.declared.Refusal.TheVariants.{NotCreatable, NotWhole, NameTooLong, Damage, TableFull, KeysFull}
 use Rattle.limits.specs.declared.Refusal.TheVariants.{ListsFull, OutputTooShort, WrongLength, OutOfArena, NoEnd}
-use Rattle.limits.specs.declared.Refusal.TheVariants.{AnotherForm, Nameless, BufferFull, NoReport}
+use Rattle.limits.specs.declared.Refusal.TheVariants.{AnotherForm, NoName, BufferFull, NoReport}
 
 -- RULES X7. The paper's word for an answer that is no refusal: two answers that differ in kind have different words
 pub data Word : Type 0 where
@@ -70,7 +70,7 @@ abbrev pub number_of : Refusal → ℕ
 number_of NotCreatable = 1
 number_of NotWhole = 2
 number_of NameTooLong = 3
-number_of Damaged = 4
+number_of Damage = 4
 number_of TableFull = 5
 number_of KeysFull = 6
 number_of ListsFull = 7
@@ -79,7 +79,7 @@ number_of WrongLength = 9
 number_of OutOfArena = 10
 number_of NoEnd = 11
 number_of AnotherForm = 12
-number_of Nameless = 13
+number_of NoName = 13
 number_of BufferFull = 14
 number_of NoReport = 15
 

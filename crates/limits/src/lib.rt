@@ -64,7 +64,7 @@ pub enum Refusal {
     NotWhole,
     NameTooLong,
     // a record, a header, a block or an entry that isn't whole
-    Damaged,
+    Damage,
     TableFull,
     KeysFull,
     ListsFull,
@@ -76,7 +76,7 @@ pub enum Refusal {
     // a vint without an end, and one in another form than the written one
     NoEnd,
     AnotherForm,
-    Nameless,
+    NoName,
     BufferFull,
     // a text that is no report
     NoReport,

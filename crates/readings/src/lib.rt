@@ -25,7 +25,6 @@ ghost use Rattle.readings.specs.Said.{said_recalled};
 use expull_header::Header;
 use memory_arena::Arena;
 use reading_run::Run;
-use records::Head;
 use store_append::ToldAppend;
 use store_look::Lookup;
 use store_state::State;
@@ -103,8 +102,7 @@ fn readings_at(
         output.old }
 {
     let arena = st.list_arena;
-    let head = records::get_head(keys, at);
-    let Head::Sound(h) = head else {
+    let Some(h) = records::get_head(keys, at) else {
         return Recalled::Refused(4, 0);
     };
     if !expull_walk::are_good_blocks(lists, arena, h.head, h.number - 2) {

@@ -3,7 +3,6 @@ use Prim.Native.Nat.{ℕ, ◌+◌, ◌≤◌}
 use mathlib.Core.Path.{◌≡◌, refl, sym, ◌∙◌, subst}
 use mathlib.Core.Bool.{Bool, true, false, cond}
 use mathlib.Core.List.{List, ◌++◌}
-use native.Mathlib.Omega.{arith}
 use lib.ListN.{length}
 use Rattle.limits.specs.Limits.{record_extra}
 use Rattle.numbers.proofs.Tests.{both, left_false}
@@ -17,7 +16,7 @@ use Rattle.records.specs.Record.{key_length, good_record, value_place, header_of
 use Rattle.expull_header.specs.declared.Header.{Header}
 use Rattle.expull_header.specs.Header.{end_bytes_at, sound_header, header_bytes}
 use Rattle.expull_header.proofs.Laws.{sound_facts}
-use Rattle.records.specs.declared.Head.TheVariants.{Sound, Broken}
+use Rattle.std.specs.Prelude.{Some, None}
 use Rattle.numbers.specs.LittleEndian.{le_bytes}
 use Rattle.numbers.proofs.Laws.{length_le}
 
@@ -39,11 +38,11 @@ good-record-in a keys at s g =
     good-in a at (key_length keys at + record_extra) (length keys) (sensible_facts a (length keys) s).stands
     (both (good_span a at 2) (good_span a at (key_length keys at + record_extra)) g).1
 
-pub head-sound : (keys : List ℕ) (at : ℕ) → header_sound keys at ≡ true → head_of keys at ≡ Sound (header_of keys at)
+pub head-sound : (keys : List ℕ) (at : ℕ) → header_sound keys at ≡ true → head_of keys at ≡ Some (header_of keys at)
 unfolding head_of
 head-sound keys at e = rw e
 
-pub head-broken : (keys : List ℕ) (at : ℕ) → header_sound keys at ≡ false → head_of keys at ≡ Broken
+pub head-broken : (keys : List ℕ) (at : ℕ) → header_sound keys at ≡ false → head_of keys at ≡ None
 unfolding head_of
 head-broken keys at e = rw e
 
@@ -53,11 +52,11 @@ pub record Headed (keys : List ℕ) (at : ℕ) (h : Header) : Type 0 where
   pub is : h ≡ header_of keys at
   pub ends : sound_header h 0 ≡ true
 
-pub head-found : (keys : List ℕ) (at : ℕ) (h : Header) → head_of keys at ≡ Sound h → Headed keys at h
+pub head-found : (keys : List ℕ) (at : ℕ) (h : Header) → head_of keys at ≡ Some h → Headed keys at h
 unfolding head_of header_sound
 head-found keys at h e = go (header_sound keys at) refl e
   where
-    go : (b : Bool) → header_sound keys at ≡ b → cond b (Sound (header_of keys at)) Broken ≡ Sound h → Headed keys at h
+    go : (b : Bool) → header_sound keys at ≡ b → cond b (Some (header_of keys at)) None ≡ Some h → Headed keys at h
     go true p e =
         let z : header_of keys at ≡ h = cc in
         let s = sound_facts (header_of keys at) (end_bytes_at (value_place keys at) keys) p in
@@ -67,15 +66,15 @@ head-found keys at h e = go (header_sound keys at) refl e
           ends = subst (λ (g : Header). sound_header g 0 ≡ true) z
               (subst (λ (n : ℕ). sound_header (header_of keys at) n ≡ true) s.closed p);
         }
-    go false p e = let z : ◌≡◌ {A = ℕ} 0 1 = cc in absurd (omega arith)
+    go false p e = cc
 
-pub head_lost : (keys : List ℕ) (at : ℕ) → head_of keys at ≡ Broken → header_sound keys at ≡ false
+pub head_lost : (keys : List ℕ) (at : ℕ) → head_of keys at ≡ None → header_sound keys at ≡ false
 unfolding head_of
 head_lost keys at e = go (header_sound keys at) refl e
   where
-    go : (b : Bool) → header_sound keys at ≡ b → cond b (Sound (header_of keys at)) Broken ≡ Broken
+    go : (b : Bool) → header_sound keys at ≡ b → cond b (Some (header_of keys at)) None ≡ None
         → header_sound keys at ≡ false
-    go true p e = let z : ◌≡◌ {A = ℕ} 0 1 = cc in absurd (omega arith)
+    go true p e = cc
     go false p e = p
 
 pub record_written : (at : ℕ) (name : List ℕ) (h : Header) (m : List ℕ)

@@ -1,6 +1,6 @@
 -- RULES M4, M5, V3. Document 01, "Buckets": "A record is the key length as 2 little-endian bytes, the key, a 16-byte
 -- value". The key is a lane's name, the value the header of its list.
-use Rattle.std.specs.Prelude.{ℕ, ◌+◌, Bool, cond, ◌&&◌, List, ◌++◌, length}
+use Rattle.std.specs.Prelude.{ℕ, ◌+◌, Bool, cond, ◌&&◌, List, ◌++◌, length, Option, Some, None}
 use Rattle.limits.specs.Limits.{record_extra}
 use Rattle.numbers.specs.LittleEndian.{le_number, le_bytes}
 use Rattle.spans.specs.Span.{read_span}
@@ -8,8 +8,6 @@ use Rattle.memory_arena.specs.declared.Arena.{Arena}
 use Rattle.memory_arena.specs.Pages.{good_span}
 use Rattle.expull_header.specs.declared.Header.{Header}
 use Rattle.expull_header.specs.Header.{header_at, end_bytes_at, sound_header, header_bytes}
-use Rattle.records.specs.declared.Head.{Head}
-use Rattle.records.specs.declared.Head.TheVariants.{Sound, Broken}
 
 -- RULES M4. The key length.
 unfoldable pub key_length : List ℕ → ℕ → ℕ
@@ -40,10 +38,10 @@ unfoldable pub header_sound : List ℕ → ℕ → Bool
 unfolding value_place header_at end_bytes_at sound_header
 header_sound keys at = sound_header (header_of keys at) (end_bytes_at (value_place keys at) keys)
 
--- RULES V3. The header, or damage.
-unfoldable pub head_of : List ℕ → ℕ → Head
+-- RULES V3. The header; none where it is damage.
+unfoldable pub head_of : List ℕ → ℕ → Option Header
 unfolding header_sound
-head_of keys at = cond (header_sound keys at) (Sound (header_of keys at)) Broken
+head_of keys at = cond (header_sound keys at) (Some (header_of keys at)) None
 
 -- RULES M4, V13. "A record is the key length as 2 little-endian bytes, the key, a 16-byte value".
 unfoldable pub record_bytes : List ℕ → Header → List ℕ

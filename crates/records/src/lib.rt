@@ -15,13 +15,6 @@ ghost use Rattle.records.specs.Record.{key_length, good_record, value_place, hea
 use expull_header::Header;
 use memory_arena::Arena;
 
-// The header of a standing lane's list, or damage.
-#[derive(Clone, Copy)]
-pub enum Head {
-    Sound(Header),
-    Broken,
-}
-
 // Whether a record, its length bytes first, is a good span.
 pub fn is_good_record(keys: &[u8], arena: Arena, at: u32) -> bool
     requires { sensible arena (length keys.now) ≡ true }
@@ -51,18 +44,16 @@ pub fn value_place(keys: &[u8], at: u32) -> usize
     (at as usize) + 2 + key_length(keys, at)
 }
 
-// The header of the record at a place, or damage. Public for the calls that read a lane in other ways than these here.
-pub fn get_head(keys: &[u8], at: u32) -> Head
+// The header of the record at a place; none where it is damage. Public for the calls that read a lane in other ways than
+// these here.
+pub fn get_head(keys: &[u8], at: u32) -> Option<Header>
     requires { (at + 2 ≤ length keys.now) × (value_place keys.now at + 16 ≤ length keys.now) }
     ensures { result ≡ head_of keys.now at }
 {
     let place = value_place(keys, at);
     let h = expull_header::get_header(keys, place);
     let ends = expull_header::get_end_bytes(keys, place);
-    if expull_header::is_sound_header(h, ends) {
-        return Head::Sound(h);
-    }
-    Head::Broken
+    expull_header::is_sound_header(h, ends).then_some(h)
 }
 
 // Writes a record: the name's length, the name, the header.

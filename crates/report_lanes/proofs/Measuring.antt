@@ -12,11 +12,11 @@ use Rattle.limits.specs.Limits.{record_extra, bucket_limit}
 use Rattle.numbers.proofs.Tests.{both}
 use Rattle.spans.specs.Span.{overwrite}
 use Rattle.spans.proofs.Laws.{length_span}
-use Rattle.shared_arena_hashmap.specs.declared.Next.{Next}
-use Rattle.shared_arena_hashmap.specs.declared.Next.TheVariants.{Occupied, NoMore as NoBucket}
+use Rattle.std.specs.Prelude.{Option, Some, None}
+use Rattle.shared_arena_hashmap.specs.declared.Occupied.{Occupied}
 use Rattle.shared_arena_hashmap.specs.Buckets.{empty_at, address_at}
 use Rattle.records.specs.Record.{key_length, key_at, good_record, value_place, header_of, header_sound}
-use Rattle.shared_arena_hashmap.specs.Probe.{occupied_from}
+use Rattle.shared_arena_hashmap.specs.Probe.{occupied_by, occupied_from}
 use Rattle.records.proofs.Laws.{good-record-in, head-found, head-sound}
 use Rattle.expull_header.specs.Header.{sound_header, lane_length, block_count}
 use Rattle.expull_walk.specs.Blocks.{good_blocks, lane_bytes}
@@ -84,25 +84,17 @@ module _ (st : State) (m : Lent) (i at : ℕ) where
 
 -- ---- the next one
 
-occupied-below : (t : List ℕ) (first n i j at : ℕ) → occupied_from t first n i ≡ Occupied j at → j < i + n
+occupied-within : (t : List ℕ) (first n i : ℕ) (o : Occupied) → occupied_from t first n i ≡ Some o
+    → (i ≤ o.bucket) × (o.bucket < i + n)
 unfolding occupied_from
-occupied-below t first zero i j at e = let z : ◌≡◌ {A = ℕ} 0 1 = cc in absurd (omega arith)
-occupied-below t first (suc n) i j at e = go (empty_at t (first + i)) (occupied-below t first n (i + 1) j at) e
+occupied-within t first zero i o e = cc
+occupied-within t first (suc n) i o e = go (empty_at t (first + i)) (occupied-within t first n (i + 1) o) e
   where
-    go : (b : Bool) → (occupied_from t first n (i + 1) ≡ Occupied j at → j < i + 1 + n)
-        → cond b (occupied_from t first n (i + 1)) (Occupied i (address_at t (first + i))) ≡ Occupied j at → j < i + suc n
-    go true f e = omega (arith, f e)
-    go false f e = let z : i ≡ j = cc in omega arith
-
-occupied_from_lem : (t : List ℕ) (first n i j at : ℕ) → occupied_from t first n i ≡ Occupied j at → i ≤ j
-unfolding occupied_from
-occupied_from_lem t first zero i j at e = let z : ◌≡◌ {A = ℕ} 0 1 = cc in absurd (omega arith)
-occupied_from_lem t first (suc n) i j at e = go (empty_at t (first + i)) (occupied_from_lem t first n (i + 1) j at) e
-  where
-    go : (b : Bool) → (occupied_from t first n (i + 1) ≡ Occupied j at → i + 1 ≤ j)
-        → cond b (occupied_from t first n (i + 1)) (Occupied i (address_at t (first + i))) ≡ Occupied j at → i ≤ j
-    go true f e = omega (arith, f e)
-    go false f e = let z : i ≡ j = cc in omega arith
+    go : (b : Bool) → (occupied_from t first n (i + 1) ≡ Some o → (i + 1 ≤ o.bucket) × (o.bucket < i + 1 + n))
+        → cond b (occupied_from t first n (i + 1)) (Some (occupied_by i (address_at t (first + i)))) ≡ Some o
+        → (i ≤ o.bucket) × (o.bucket < i + suc n)
+    go true f e = let p = f e in (omega arith, omega arith)
+    go false f e = let z : i ≡ o.bucket = cc in (omega arith, omega arith)
 
 pub record ListedHeld (st : State) (m : Lent) (j at : ℕ) : Type 0 where
   pub below : j < st.buckets
@@ -115,30 +107,25 @@ unfolding on_next
 next-held st m i j at c e =
     go (occupied_from m.table (first_of st) (st.buckets - i) i) refl (sym (next-on st m i c) ∙ e)
   where
-    made : (j' at' : ℕ) → occupied_from m.table (first_of st) (st.buckets - i) i ≡ Occupied j' at' → (b : Bool)
-        → good_record st.key_arena m.keys at' ≡ b
-        → cond b (Bucket j' at') (Stopped 4) ≡ Bucket j at → ListedHeld st m j at
-    made j' at' o true g e =
-        let x : at' ≡ at = cc in
-        let y : j' ≡ j = cc in
+    made : (o : Occupied) → occupied_from m.table (first_of st) (st.buckets - i) i ≡ Some o → (b : Bool)
+        → good_record st.key_arena m.keys o.place ≡ b
+        → cond b (Bucket o.bucket o.place) (Stopped 4) ≡ Bucket j at → ListedHeld st m j at
+    made o f true g e =
+        let x : o.place ≡ at = cc in
+        let y : o.bucket ≡ j = cc in
         let g' : good_record st.key_arena m.keys at ≡ true = rw x at g in
         record {
-          below = omega (
-            arith,
-            occupied-below m.table (first_of st) (st.buckets - i) i j' at' o,
-            occupied_from_lem
-                m.table (first_of st) (st.buckets - i) i j' at' o,
-          );
+          below = omega (arith, occupied-within m.table (first_of st) (st.buckets - i) i o f);
           good = g';
           in-keys = good-record-in st.key_arena m.keys at
               (whole_facts st (length m.table) (length m.keys) (length m.lists) c).key_arena g';
         }
-    made j' at' o false g e = let z : ◌≡◌ {A = ℕ} 0 1 = cc in absurd (omega arith)
+    made o f false g e = cc
 
-    go : (x : Next) → occupied_from m.table (first_of st) (st.buckets - i) i ≡ x
+    go : (x : Option Occupied) → occupied_from m.table (first_of st) (st.buckets - i) i ≡ x
         → on_next x st.key_arena m.keys ≡ Bucket j at → ListedHeld st m j at
-    go (Occupied j' at') o e = made j' at' o (good_record st.key_arena m.keys at') refl e
-    go NoBucket o e = let z : ◌≡◌ {A = ℕ} 0 1 = cc in absurd (omega arith)
+    go (Some o) f e = made o f (good_record st.key_arena m.keys o.place) refl e
+    go None f e = cc
 
 pub value_in : (st : State) (m : Lent) (j at : ℕ) → ListedHeld st m j at → (at + 2 ≤ length m.keys)
     × (value_place m.keys at + 16 ≤ length m.keys)

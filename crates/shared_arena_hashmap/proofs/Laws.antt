@@ -4,7 +4,7 @@ use Prim.Native.Nat.{ℕ, zero, suc, ◌+◌, ◌-◌, ◌*◌, ◌%◌, ◌^◌
 use mathlib.Core.Path.{◌≡◌, refl, sym, ap, ◌∙◌, subst}
 use mathlib.Core.Bool.{Bool, true, false, cond}
 use mathlib.Core.List.{List, [], ◌∷◌}
-use native.Mathlib.Nat.{not-suc-le-zero, pow-succ', mul_assoc, mul_comm, max-eq_left, max-eq_right}
+use native.Mathlib.Nat.{pow-succ', mul_assoc, mul_comm, max-eq_left, max-eq_right}
 use native.Mathlib.Omega.{arith}
 use lib.Dec.{leb, eqb}
 use lib.Bits.{bit_and, and_mask}
@@ -22,17 +22,13 @@ use Rattle.shared_arena_hashmap.specs.declared.Seen.{Seen}
 use Rattle.shared_arena_hashmap.specs.declared.Seen.TheVariants.{Nothing, Same, Broken, Other}
 use Rattle.shared_arena_hashmap.specs.declared.Met.TheVariants.{Standing, Lap}
 use Rattle.shared_arena_hashmap.specs.declared.Walk.{Walk}
-use Rattle.shared_arena_hashmap.specs.declared.Next.TheVariants.{Occupied, NoMore}
+use Rattle.std.specs.Prelude.{Some, None}
 use Rattle.shared_arena_hashmap.specs.Power.{doubled, rounded_down, power_of_two, grown_length}
 use Rattle.shared_arena_hashmap.specs.Buckets.{address_at, hash_at, empty_at, with_bucket, empty_buckets, cleared}
 use Rattle.records.specs.Record.{key_length, good_record, key_at}
 use Rattle.shared_arena_hashmap.specs.Probe.{seen_record, seen_at, start_of, next_bucket, walked, on_seen, probe}
-use Rattle.shared_arena_hashmap.specs.Probe.{lookup, occupied_from}
+use Rattle.shared_arena_hashmap.specs.Probe.{lookup, occupied_by, occupied_from}
 use Rattle.shared_arena_hashmap.specs.Grow.{free_from, free_of, entered, reentered, all_reentered, grown}
-
--- two constructors are never equal
-clash : {A : Type 0} → ◌≡◌ {A = ℕ} 0 1 → A
-clash e = absurd (omega arith)
 
 -- ---- powers of two
 
@@ -186,40 +182,40 @@ unfolding with_bucket
 stored-bucket b address hash t =
     rw (store-one (2 * b) address t) (store-next (2 * b) (address ∷ []) t hash (2 * b + 1) refl)
 
-pub cleared-turn : (b n : ℕ) (t : List ℕ) → 0 < n
-    → cleared b n t ≡ cleared (b + 1) (n - 1) (with_bucket b null_address 0 t)
+pub cleared-turn : (b e : ℕ) (t : List ℕ) → b < e
+    → cleared b (e - b) t ≡ cleared (b + 1) (e - (b + 1)) (with_bucket b null_address 0 t)
 unfolding cleared with_bucket empty_buckets
-cleared-turn b zero t k = absurd (not-suc-le-zero k)
-cleared-turn b (suc n) t k =
-    let q : suc n - 1 ≡ n = omega arith in
+cleared-turn b e t h =
+    let q : e - b ≡ suc (e - (b + 1)) = omega arith in
     let w : 2 * (b + 1) ≡ 2 * b + 2 = omega arith in
-    rw (q, w) (overwrite-append (2 * b) (null_address ∷ 0 ∷ []) (empty_buckets n) t)
+    rw (q, w) (overwrite-append (2 * b) (null_address ∷ 0 ∷ []) (empty_buckets (e - (b + 1))) t)
 
-pub cleared-end : (b n : ℕ) (t : List ℕ) → n ≡ 0 → cleared b n t ≡ t
+pub cleared-end : (b e : ℕ) (t : List ℕ) → e ≤ b → cleared b (e - b) t ≡ t
 unfolding cleared empty_buckets
-cleared-end b n t e = rw e (overwrite_none (2 * b) t)
+cleared-end b e t h =
+    let q : e - b ≡ 0 = omega arith in
+    rw q (overwrite_none (2 * b) t)
 
 -- ---- the search for an empty bucket, and growth
 
-pub free_turn : (t : List ℕ) (first l n i : ℕ) → 0 < n
-    → free_from t first l n i ≡ cond (empty_at t (first + i)) i (free_from t first l (n - 1) (next_bucket l i))
+pub free_turn : (t : List ℕ) (first l n i k : ℕ) → k < n
+    → free_from t first l (n - k) i
+    ≡ cond (empty_at t (first + i)) i (free_from t first l (n - (k + 1)) (next_bucket l i))
 unfolding free_from
-free_turn t first l zero i h = absurd (not-suc-le-zero h)
-free_turn t first l (suc n) i h = let q : suc n - 1 ≡ n = omega arith in rw q
+free_turn t first l n i k h = let q : n - k ≡ suc (n - (k + 1)) = omega arith in rw q
 
-pub free_end : (t : List ℕ) (first l n i : ℕ) → n ≡ 0 → free_from t first l n i ≡ l
+pub free_end : (t : List ℕ) (first l n i k : ℕ) → n ≤ k → free_from t first l (n - k) i ≡ l
 unfolding free_from
-free_end t first l n i e = rw e
+free_end t first l n i k h = let q : n - k ≡ 0 = omega arith in rw q
 
-pub reenter_turn : (n b first l : ℕ) (t : List ℕ) → 0 < n
-    → all_reentered n b first l t ≡ all_reentered (n - 1) (b + 1) first l (reentered b first l t)
+pub reenter_turn : (b e first l : ℕ) (t : List ℕ) → b < e
+    → all_reentered (e - b) b first l t ≡ all_reentered (e - (b + 1)) (b + 1) first l (reentered b first l t)
 unfolding all_reentered
-reenter_turn zero b first l t h = absurd (not-suc-le-zero h)
-reenter_turn (suc n) b first l t h = let q : suc n - 1 ≡ n = omega arith in rw q
+reenter_turn b e first l t h = let q : e - b ≡ suc (e - (b + 1)) = omega arith in rw q
 
-pub reenter_end : (n b first l : ℕ) (t : List ℕ) → n ≡ 0 → all_reentered n b first l t ≡ t
+pub reenter_end : (b e first l : ℕ) (t : List ℕ) → e ≤ b → all_reentered (e - b) b first l t ≡ t
 unfolding all_reentered
-reenter_end n b first l t e = rw e
+reenter_end b e first l t h = let q : e - b ≡ 0 = omega arith in rw q
 
 -- a table cleared and then re-entered, as code has it
 pub grown_code : (n old first l : ℕ) (t s r : List ℕ) → s ≡ cleared first l t → r ≡ all_reentered n old first l s
@@ -293,8 +289,8 @@ seen-record keys a at x name e = go (good_record a keys at) refl (equal_bytes (k
         → cond t (cond u (Same at) Other) Broken ≡ Same x
         → HasKey a keys x name
     go true p true q f = let z : at ≡ x = cc in (rw z at p, rw z at (equal_true (key_at keys at) name q))
-    go true p false q f = clash (cc)
-    go false p u q f = clash (cc)
+    go true p false q f = cc
+    go false p u q f = cc
 
 seen-bucket : (t keys : List ℕ) (a : Arena) (b hash x : ℕ) (name : List ℕ) → seen_at t keys a b hash name ≡ Same x
     → HasKey a keys x name
@@ -303,25 +299,26 @@ seen-bucket t keys a b hash x name e = go (empty_at t b) (eqb (hash_at t b) hash
   where
     go : (v u : Bool) → cond v Nothing (cond u (seen_record keys a (address_at t b) name) Other) ≡ Same x
         → HasKey a keys x name
-    go true u f = clash (cc)
+    go true u f = cc
     go false true f = seen-record keys a (address_at t b) x name f
-    go false false f = clash (cc)
+    go false false f = cc
 
 -- ---- a lookup
 
 -- a turn, by what the bucket was seen to be
-pub probe-turn : (t keys : List ℕ) (a : Arena) (first l hash : ℕ) (name : List ℕ) (n i k : ℕ) (r s : Seen) → 0 < n
+pub probe-turn : (t keys : List ℕ) (a : Arena) (first l hash : ℕ) (name : List ℕ) (n i k : ℕ) (r s : Seen) → k < n
     → r ≡ seen_at t keys a (first + i) hash name → r ≡ s
-    → probe t keys a first l hash name n i k
-    ≡ on_seen s (k + 1) (probe t keys a first l hash name (n - 1) (next_bucket l i) (k + 1))
+    → probe t keys a first l hash name (n - k) i k
+    ≡ on_seen s (k + 1) (probe t keys a first l hash name (n - (k + 1)) (next_bucket l i) (k + 1))
 unfolding probe
-probe-turn t keys a first l hash name zero i k r s h e f = absurd (not-suc-le-zero h)
-probe-turn t keys a first l hash name (suc n) i k r s h e f = let q : suc n - 1 ≡ n = omega arith in rw (q, ← e, f)
+probe-turn t keys a first l hash name n i k r s h e f =
+    let q : n - k ≡ suc (n - (k + 1)) = omega arith in
+    rw (q, ← e, f)
 
-pub probe-end : (t keys : List ℕ) (a : Arena) (first l hash : ℕ) (name : List ℕ) (n i k : ℕ) → n ≡ 0
-    → probe t keys a first l hash name n i k ≡ walked Lap k
+pub probe-end : (t keys : List ℕ) (a : Arena) (first l hash : ℕ) (name : List ℕ) (n i k : ℕ) → k ≡ n
+    → probe t keys a first l hash name (n - k) i k ≡ walked Lap n
 unfolding probe
-probe-end t keys a first l hash name n i k e = rw e
+probe-end t keys a first l hash name n i k h = let q : n - n ≡ 0 = omega arith in rw (h, q)
 
 probe-looked : (t keys : List ℕ) (a : Arena) (first l hash : ℕ) (name : List ℕ) (n i k : ℕ)
     → (k + min 1 n ≤ (probe t keys a first l hash name n i k).looked)
@@ -349,7 +346,7 @@ lookup-looked t keys a first l hash name h =
 probe-met : (t keys : List ℕ) (a : Arena) (first l hash : ℕ) (name : List ℕ) (n i k x : ℕ)
     → (probe t keys a first l hash name n i k).met ≡ Standing x → HasKey a keys x name
 unfolding probe
-probe-met t keys a first l hash name zero i k x e = clash (cc)
+probe-met t keys a first l hash name zero i k x e = cc
 probe-met t keys a first l hash name (suc n) i k x e =
     go (seen_at t keys a (first + i) hash name) refl (probe t keys a first l hash name n (next_bucket l i) (k + 1))
     (probe-met t keys a first l hash name n (next_bucket l i) (k + 1) x) e
@@ -357,9 +354,9 @@ probe-met t keys a first l hash name (suc n) i k x e =
     go : (s : Seen) → seen_at t keys a (first + i) hash name ≡ s → (w : Walk)
         → (w.met ≡ Standing x → HasKey a keys x name) → (on_seen s (k + 1) w).met ≡ Standing x
         → HasKey a keys x name
-    go Nothing q w f e = clash (cc)
+    go Nothing q w f e = cc
     go (Same y) q w f e = let z : y ≡ x = cc in seen-bucket t keys a (first + i) hash x name (q ∙ ap Same z)
-    go Broken q w f e = clash (cc)
+    go Broken q w f e = cc
     go Other q w f e = f e
 
 -- a record met standing is good, and its key is the name
@@ -370,17 +367,14 @@ record_bounds t keys a first l hash name at e = probe-met t keys a first l hash 
 
 -- ---- listing
 
--- a turn and the end, k buckets on from i
-pub occupied-turn : (t : List ℕ) (first n i k : ℕ) → k < n
-    → occupied_from t first (n - k) (i + k)
-    ≡ cond (empty_at t (first + (i + k))) (occupied_from t first (n - (k + 1)) (i + (k + 1)))
-    (Occupied (i + k) (address_at t (first + (i + k))))
+-- a turn and the end, from bucket i on
+pub occupied-turn : (t : List ℕ) (first i e : ℕ) → i < e
+    → occupied_from t first (e - i) i
+    ≡ cond (empty_at t (first + i)) (occupied_from t first (e - (i + 1)) (i + 1))
+    (Some (occupied_by i (address_at t (first + i))))
 unfolding occupied_from
-occupied-turn t first n i k h =
-    let m : n - k ≡ suc (n - (k + 1)) = omega arith in
-    let q : i + (k + 1) ≡ i + k + 1 = omega arith in
-    rw (m, q)
+occupied-turn t first i e h = let q : e - i ≡ suc (e - (i + 1)) = omega arith in rw q
 
-pub occupied-end : (t : List ℕ) (first n i k : ℕ) → n ≤ k → occupied_from t first (n - k) (i + k) ≡ NoMore
+pub occupied-end : (t : List ℕ) (first i e : ℕ) → e ≤ i → occupied_from t first (e - i) i ≡ None
 unfolding occupied_from
-occupied-end t first n i k h = let m : n - k ≡ 0 = omega arith in rw m
+occupied-end t first i e h = let q : e - i ≡ 0 = omega arith in rw q

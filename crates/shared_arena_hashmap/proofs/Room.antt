@@ -254,16 +254,16 @@ seen_nothing t keys a b hash name e =
     go : (x y z w : Bool) → cond x Nothing (cond y (cond z (cond w (Same (address_at t b)) Other) Broken) Other)
         ≡ Nothing → x ≡ true
     go true y z w e = refl
-    go false true true true e = let z : ◌≡◌ {A = ℕ} 0 1 = cc in absurd (omega arith)
-    go false true true false e = let z : ◌≡◌ {A = ℕ} 0 1 = cc in absurd (omega arith)
-    go false true false w e = let z : ◌≡◌ {A = ℕ} 0 1 = cc in absurd (omega arith)
-    go false false z w e = let z : ◌≡◌ {A = ℕ} 0 1 = cc in absurd (omega arith)
+    go false true true true e = cc
+    go false true true false e = cc
+    go false true false w e = cc
+    go false false z w e = cc
 
 -- a lookup that ended at an empty bucket has seen one
 probe_empty : (t keys : List ℕ) (a : Arena) (first l hash : ℕ) (name : List ℕ) (n i k : ℕ) → i < l
     → (probe t keys a first l hash name n i k).met ≡ Empty → AnEmpty t first l
 unfolding probe AnEmpty
-probe_empty t keys a first l hash name zero i k h e = let z : ◌≡◌ {A = ℕ} 0 1 = cc in absurd (omega arith)
+probe_empty t keys a first l hash name zero i k h e = cc
 probe_empty t keys a first l hash name (suc n) i k h e =
     go (seen_at t keys a (first + i) hash name) refl e
     (probe_empty t keys a first l hash name n (next_bucket l i) (k + 1) (next-below l i h))
@@ -274,8 +274,8 @@ probe_empty t keys a first l hash name (suc n) i k h e =
     go : (s : Seen) → seen_at t keys a (first + i) hash name ≡ s → (on_seen s (k + 1) rest).met ≡ Empty
         → (rest.met ≡ Empty → AnEmpty t first l) → AnEmpty t first l
     go Nothing p e f = (i, h, seen_nothing t keys a (first + i) hash name p)
-    go (Same at) p e f = let z : ◌≡◌ {A = ℕ} 0 1 = cc in absurd (omega arith)
-    go Broken p e f = let z : ◌≡◌ {A = ℕ} 0 1 = cc in absurd (omega arith)
+    go (Same at) p e f = cc
+    go Broken p e f = cc
     go Other p e f = f e
 
 pub lookup_empty : (t keys : List ℕ) (a : Arena) (first l hash : ℕ) (name : List ℕ) → 0 < l
@@ -298,7 +298,7 @@ probe_free : (t keys : List ℕ) (a : Arena) (first l hash : ℕ) (name : List �
     → (probe t keys a first l hash name n i k).met ≡ Empty
     → free_from t first l n i ≡ (hash + (probe t keys a first l hash name n i k).looked) % l
 unfolding probe free_from
-probe_free t keys a first l hash name zero i k h m e = let z : ◌≡◌ {A = ℕ} 0 1 = cc in absurd (omega arith)
+probe_free t keys a first l hash name zero i k h m e = cc
 probe_free t keys a first l hash name (suc n) i k h m e =
     go (seen_at t keys a (first + i) hash name) refl (empty_at t (first + i)) refl e
     (probe_free t keys a first l hash name n (next_bucket l i) (k + 1) (next-below l i h)
@@ -314,8 +314,8 @@ probe_free t keys a first l hash name (suc n) i k h m e =
     go Nothing p true q e f = m
     go Nothing p false q e f =
         absurd (false≢true (sym q ∙ seen_nothing t keys a (first + i) hash name p))
-    go (Same at) p b q e f = let z : ◌≡◌ {A = ℕ} 0 1 = cc in absurd (omega arith)
-    go Broken p b q e f = let z : ◌≡◌ {A = ℕ} 0 1 = cc in absurd (omega arith)
+    go (Same at) p b q e f = cc
+    go Broken p b q e f = cc
     go Other p true q e f = absurd (seen_other t keys a (first + i) hash name p q)
     go Other p false q e f = f e
 

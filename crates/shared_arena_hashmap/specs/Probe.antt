@@ -1,7 +1,7 @@
 -- RULES N, M4, M5. Document 01, "Buckets": "Probing starts at (hash + 1) mod L and goes up by one, round the end. A
 -- lookup ends at an empty bucket (absent), at a bucket with equal hash and equal key, or after L buckets (absent)." A
 -- record that is no good span, met with equal hash, is damage.
-use Rattle.std.specs.Prelude.{ℕ, zero, suc, ◌+◌, ◌%◌, cond, List, eqb}
+use Rattle.std.specs.Prelude.{ℕ, zero, suc, ◌+◌, ◌%◌, cond, List, Option, Some, None, eqb}
 use Rattle.fastcmp.specs.Equal.{equal_bytes}
 use Rattle.memory_arena.specs.declared.Arena.{Arena}
 use Rattle.shared_arena_hashmap.specs.declared.Seen.{Seen}
@@ -9,8 +9,7 @@ use Rattle.shared_arena_hashmap.specs.declared.Seen.TheVariants.{Nothing, Same, 
 use Rattle.shared_arena_hashmap.specs.declared.Met.{Met}
 use Rattle.shared_arena_hashmap.specs.declared.Met.TheVariants.{Empty, Standing, Damaged, Lap}
 use Rattle.shared_arena_hashmap.specs.declared.Walk.{Walk}
-use Rattle.shared_arena_hashmap.specs.declared.Next.{Next}
-use Rattle.shared_arena_hashmap.specs.declared.Next.TheVariants.{Occupied, NoMore}
+use Rattle.shared_arena_hashmap.specs.declared.Occupied.{Occupied}
 use Rattle.shared_arena_hashmap.specs.Buckets.{address_at, hash_at, empty_at}
 use Rattle.records.specs.Record.{good_record, key_at}
 
@@ -60,8 +59,12 @@ lookup t keys a first l hash name = probe t keys a first l hash name l (start_of
 
 -- ---- listing: "the next occupied bucket from i, or none"
 
+-- RULES N5. A bucket that isn't empty, with its record's place.
+abbrev pub occupied_by : ℕ → ℕ → Occupied
+occupied_by i at = record { bucket = i; place = at }
+
 -- RULES N5. The first that isn't empty among n buckets from i on.
-unfoldable pub occupied_from : List ℕ → ℕ → ℕ → ℕ → Next
-occupied_from t first zero i = NoMore
+unfoldable pub occupied_from : List ℕ → ℕ → ℕ → ℕ → Option Occupied
+occupied_from t first zero i = None
 occupied_from t first (suc n) i =
-    cond (empty_at t (first + i)) (occupied_from t first n (i + 1)) (Occupied i (address_at t (first + i)))
+    cond (empty_at t (first + i)) (occupied_from t first n (i + 1)) (Some (occupied_by i (address_at t (first + i))))

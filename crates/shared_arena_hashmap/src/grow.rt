@@ -19,12 +19,8 @@ pub fn clear(table: &mut [u32], b: usize, n: usize)
     requires { 2 * (b + n) ≤ length table.old }
     ensures { table.new ≡ cleared b n table.old }
 {
-    let mut at = b;
-    let mut left = n;
-    while 0 < left {
+    for at in b..b + n {
         set_bucket(table, at, limits::NULL, 0);
-        at = at + 1;
-        left = left - 1;
     }
 }
 
@@ -34,14 +30,12 @@ fn free(table: &[u32], first: usize, l: usize, hash: u32) -> usize
     ensures { (result ≡ free_of table.now first l hash) × (result ≤ l) }
 {
     let mut i = ((hash as usize) + 1) % l;
-    let mut left = l;
-    while 0 < left {
-        let w = 2 * (first + i);
-        if table[w] == limits::NULL {
+    for _before in 0..l {
+        let address = table[2 * (first + i)];
+        if address == limits::NULL {
             return i;
         }
         i = crate::next_bucket(l, i);
-        left = left - 1;
     }
     l
 }
@@ -85,12 +79,8 @@ fn reenter_all(table: &mut [u32], n: usize, b: usize, first: usize, l: usize)
     requires { (0 < l) × ((2 * (first + l) ≤ length table.old) × (2 * (b + n) ≤ length table.old)) }
     ensures { table.new ≡ all_reentered n b first l table.old }
 {
-    let mut at = b;
-    let mut left = n;
-    while 0 < left {
+    for at in b..b + n {
         reenter(table, at, first, l);
-        at = at + 1;
-        left = left - 1;
     }
 }
 

@@ -40,11 +40,11 @@ pub struct Walk {
     pub looked: usize,
 }
 
-// The next occupied bucket and its record's place, or none.
+// An occupied bucket, and its record's place.
 #[derive(Clone, Copy)]
-pub enum Next {
-    Occupied(usize, u32),
-    NoMore,
+pub struct Occupied {
+    pub bucket: usize,
+    pub place: u32,
 }
 
 // The largest power of two that is at most a capacity, which is at least 1: its highest bit.
@@ -131,49 +131,40 @@ pub fn find(
     ensures { result ≡ lookup table.now keys.now arena first l hash name.now }
 {
     let mut i = start_bucket(l, hash);
-    let mut left = l;
-    let mut looked: usize = 0;
-    while 0 < left {
-        let seen = see(table, keys, arena, first + i, hash, name);
-        looked = looked + 1;
-        match seen {
+    for before in 0..l {
+        match see(table, keys, arena, first + i, hash, name) {
             Seen::Nothing => return Walk {
                 met: Met::Empty,
-                looked,
+                looked: before + 1,
             },
             Seen::Same(at) => return Walk {
                 met: Met::Standing(at),
-                looked,
+                looked: before + 1,
             },
             Seen::Broken => return Walk {
                 met: Met::Damaged,
-                looked,
+                looked: before + 1,
             },
             Seen::Other => {}
         }
         i = next_bucket(l, i);
-        left = left - 1;
     }
     Walk {
         met: Met::Lap,
-        looked,
+        looked: l,
     }
 }
 
 // The next occupied bucket among `left` from i.
-pub fn next_occupied(table: &[u32], first: usize, left: usize, i: usize) -> Next
+pub fn next_occupied(table: &[u32], first: usize, left: usize, i: usize) -> Option<Occupied>
     requires { 2 * (first + (i + left)) ≤ length table.now }
     ensures { result ≡ occupied_from table.now first left i }
 {
-    let mut k: usize = 0;
-    while k < left {
-        let at = i + k;
-        let w = 2 * (first + at);
-        let address = table[w];
-        if address != limits::NULL {
-            return Next::Occupied(at, address);
+    for bucket in i..i + left {
+        let place = table[2 * (first + bucket)];
+        if place != limits::NULL {
+            return Some(Occupied { bucket, place });
         }
-        k = k + 1;
     }
-    Next::NoMore
+    None
 }

@@ -159,8 +159,7 @@ fn append_standing(
         bytes.now }
 {
     let arena = st.list_arena;
-    let head = records::get_head(keys, at);
-    let Head::Sound(h) = head else {
+    let Some(h) = records::get_head(keys, at) else {
         return Appended::Declined(st, 4);
     };
     if !expull_append::is_good_tail(arena, h) {

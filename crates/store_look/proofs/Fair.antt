@@ -1,6 +1,6 @@
 -- Of every answer of the calls that change nothing but an output: its number is one that the papers list for that call,
 -- and a refused reading leaves the output as it was. Assumes nothing.
-use Prim.Native.Nat.{ℕ, ◌-◌}
+use Prim.Native.Nat.{ℕ, ◌+◌, ◌-◌}
 use mathlib.Core.Path.{◌≡◌, refl}
 use mathlib.Core.Bool.{Bool, true, false, cond, ◌||◌}
 use mathlib.Core.List.{List}
@@ -11,14 +11,15 @@ use Rattle.limits.specs.Refusals.{Asked, looking_up, measuring, reading_lane, fi
 use Rattle.limits.specs.Refusals.{is_among, refusal_numbers, permitted}
 use Rattle.shared_arena_hashmap.specs.declared.Met.{Met}
 use Rattle.shared_arena_hashmap.specs.declared.Met.TheVariants.{Empty, Standing, Damaged, Lap}
-use Rattle.shared_arena_hashmap.specs.declared.Next.{Next}
-use Rattle.shared_arena_hashmap.specs.declared.Next.TheVariants.{Occupied, NoMore as NoBucket}
+use Rattle.shared_arena_hashmap.specs.declared.Occupied.{Occupied}
 use Rattle.records.specs.Record.{good_record, header_of, header_sound}
 use Rattle.shared_arena_hashmap.specs.Probe.{occupied_from}
-use Rattle.expull_walk.specs.declared.Block.{Block as BlockFound}
-use Rattle.expull_walk.specs.declared.Block.TheVariants.{BlockAt, NoBlock, BadBlock}
-use Rattle.expull_header.specs.Header.{lane_length}
-use Rattle.expull_walk.specs.Blocks.{block_of}
+use Rattle.std.specs.Prelude.{Option, Some, None, Ok, Err}
+use Rattle.limits.specs.declared.Refusal.TheVariants.{Damage as BadBlock}
+use Rattle.expull_header.specs.declared.Header.{Header}
+use Rattle.expull_header.specs.Header.{block_count, lane_length}
+use Rattle.memory_arena.specs.declared.Arena.{Arena}
+use Rattle.expull_walk.specs.Blocks.{good_blocks, block_told, block_of}
 use Rattle.store_state.specs.declared.State.{State}
 use Rattle.store_look.specs.declared.Lookup.{Lookup}
 use Rattle.store_look.specs.declared.Lookup.TheVariants.{At, Missing, Failed}
@@ -75,18 +76,26 @@ fair-length st m name =
     carried measuring (λ n h. h) (lookup_of st m name) (length_at m.keys) (fair-lookup st m name)
     (λ at. sound_or_4 measuring _ (header_sound m.keys at) refl refl)
 
+fair-found : (m : List ℕ) (a : Arena) (h : Header) (i : ℕ)
+    → permitted finding_block (said_answer (on_block (block_of a m h i))) ≡ true
+unfolding block_of
+fair-found m a h i = go (leb (block_count h) i) (good_blocks a m h.head (i + 1))
+  where
+    go : (t u : Bool)
+        → permitted finding_block
+        (said_answer (on_block (cond t (Ok None) (cond u (Ok (Some (block_told m h i))) (Err BadBlock)))))
+        ≡ true
+    go true u = refl
+    go false true = refl
+    go false false = refl
+
 pub fair_block : (st : State) (m : Lent) (name : List ℕ) (i : ℕ)
     → permitted finding_block (said_answer (find_block_of st m name i)) ≡ true
 unfolding find_block_of block_at Wider
 fair_block st m name i =
     carried finding_block (λ n h. h) (lookup_of st m name) (block_at st m i) (fair-lookup st m name)
     (λ at. sound_or_4 finding_block _ (header_sound m.keys at) refl
-    (go (block_of st.list_arena m.lists (header_of m.keys at) i)))
-  where
-    go : (b : BlockFound) → permitted finding_block (said_answer (on_block b)) ≡ true
-    go (BlockAt at n) = refl
-    go NoBlock = refl
-    go BadBlock = refl
+    (fair-found m.lists st.list_arena (header_of m.keys at) i))
 
 -- ---- reading
 
@@ -153,8 +162,8 @@ fair-next st m i = go (checked st m) (occupied_from m.table (first_of st) (st.bu
     inner true j at = refl
     inner false j at = refl
 
-    go : (b : Bool) (n : Next)
+    go : (b : Bool) (n : Option Occupied)
         → permitted listing_buckets (said_listed (cond b (on_next n st.key_arena m.keys) (Stopped 2))) ≡ true
-    go true (Occupied j at) = inner (good_record st.key_arena m.keys at) j at
-    go true NoBucket = refl
+    go true (Some o) = inner (good_record st.key_arena m.keys o.place) o.bucket o.place
+    go true None = refl
     go false n = refl

@@ -16,7 +16,8 @@ use Rattle.memory_arena.specs.Pages.{good_span}
 use Rattle.murmurhash2.specs.Murmur.{murmur_hash2}
 use Rattle.shared_arena_hashmap.specs.declared.Met.{Met}
 use Rattle.shared_arena_hashmap.specs.declared.Met.TheVariants.{Empty, Standing, Damaged, Lap}
-use Rattle.shared_arena_hashmap.specs.declared.Next.TheVariants.{Occupied, NoMore as NoBucket}
+use Rattle.std.specs.Prelude.{Some, None}
+use Rattle.shared_arena_hashmap.specs.declared.Occupied.{Occupied}
 use Rattle.records.specs.Record.{good_record, value_place, header_of, header_sound}
 use Rattle.shared_arena_hashmap.specs.Probe.{occupied_from}
 use Rattle.records.proofs.Laws.{good-record-in, Headed}
@@ -241,17 +242,17 @@ pub next-on : (st : State) (m : Lent) (i : ℕ) → checked st m ≡ true
 unfolding next_of
 next-on st m i e = rw e
 
-pub next-good : (a : Arena) (keys : List ℕ) (i at : ℕ) → good_record a keys at ≡ true
-    → on_next (Occupied i at) a keys ≡ Bucket i at
+pub next-good : (a : Arena) (keys : List ℕ) (o : Occupied) → good_record a keys o.place ≡ true
+    → on_next (Some o) a keys ≡ Bucket o.bucket o.place
 unfolding on_next
-next-good a keys i at e = rw e
+next-good a keys o e = rw e
 
-pub next_bad : (a : Arena) (keys : List ℕ) (i at : ℕ) → good_record a keys at ≡ false
-    → on_next (Occupied i at) a keys ≡ Stopped 4
+pub next_bad : (a : Arena) (keys : List ℕ) (o : Occupied) → good_record a keys o.place ≡ false
+    → on_next (Some o) a keys ≡ Stopped 4
 unfolding on_next
-next_bad a keys i at e = rw e
+next_bad a keys o e = rw e
 
-pub next_none : (a : Arena) (keys : List ℕ) → on_next NoBucket a keys ≡ NoMore
+pub next_none : (a : Arena) (keys : List ℕ) → on_next None a keys ≡ NoMore
 unfolding on_next
 next_none a keys = refl
 

@@ -2,6 +2,9 @@
 -- listing, the number of keys. Each makes the whole-state check first (2), then those by name ask the guard (3, or
 -- absent for the empty name), then they look the name up (4, or absent).
 use Rattle.std.specs.Prelude.{ℕ, ◌+◌, ◌-◌, ◌%◌, Bool, cond, ◌&&◌, List, [], leb, length}
+use Rattle.std.specs.Prelude.{Option, Some, None, Result, Ok, Err}
+use Rattle.limits.specs.declared.Refusal.{Refusal}
+use Rattle.limits.specs.Refusals.{number_of}
 use Rattle.spans.specs.Span.{read_span, overwrite}
 use Rattle.murmurhash2.specs.Murmur.{murmur_hash2}
 use Rattle.memory_arena.specs.declared.Arena.{Arena}
@@ -9,12 +12,10 @@ use Rattle.memory_arena.specs.Pages.{good_span}
 use Rattle.shared_arena_hashmap.specs.declared.Met.{Met}
 use Rattle.shared_arena_hashmap.specs.declared.Met.TheVariants.{Empty, Standing, Damaged, Lap}
 use Rattle.shared_arena_hashmap.specs.declared.Walk.{Walk}
-use Rattle.shared_arena_hashmap.specs.declared.Next.{Next}
-use Rattle.shared_arena_hashmap.specs.declared.Next.TheVariants.{Occupied, NoMore as NoBucket}
+use Rattle.shared_arena_hashmap.specs.declared.Occupied.{Occupied}
 use Rattle.records.specs.Record.{good_record, header_of, header_sound}
 use Rattle.shared_arena_hashmap.specs.Probe.{lookup, occupied_from}
 use Rattle.expull_walk.specs.declared.Block.{Block as BlockFound}
-use Rattle.expull_walk.specs.declared.Block.TheVariants.{BlockAt, NoBlock, BadBlock}
 use Rattle.expull_header.specs.Header.{lane_length, block_count}
 use Rattle.expull_walk.specs.Blocks.{good_blocks, lane_bytes, block_of}
 use Rattle.store_state.specs.declared.State.{State}
@@ -144,10 +145,10 @@ read_of st m name output = on_lookup_read (lookup_of st m name) (λ at. read_at 
 -- ---- a block found, and shown
 
 -- RULES V6. What the list's answer says.
-abbrev pub on_block : BlockFound → Answer
-on_block (BlockAt at n) = Found (Block at n)
-on_block NoBlock = Found NoSuchBlock
-on_block BadBlock = Refused 4 0
+abbrev pub on_block : Result (Option BlockFound) Refusal → Answer
+on_block (Ok (Some b)) = Found (Block b.at b.length)
+on_block (Ok None) = Found NoSuchBlock
+on_block (Err r) = Refused (number_of r) 0
 
 -- RULES V6. Of a standing lane.
 unfoldable pub block_at : State → Lent → ℕ → ℕ → Answer
@@ -170,10 +171,10 @@ show_of st m at n = cond (checked st m && good_span st.list_arena at n) (read_sp
 -- ---- listing: "the next occupied bucket from i, or none, also where i is L or more"
 
 -- RULES V8, W1. The bucket met, if its record is good.
-unfoldable pub on_next : Next → Arena → List ℕ → Listed
+unfoldable pub on_next : Option Occupied → Arena → List ℕ → Listed
 unfolding good_record
-on_next (Occupied i at) a keys = cond (good_record a keys at) (Bucket i at) (Stopped 4)
-on_next NoBucket a keys = NoMore
+on_next (Some o) a keys = cond (good_record a keys o.place) (Bucket o.bucket o.place) (Stopped 4)
+on_next None a keys = NoMore
 
 -- RULES V8. The call.
 unfoldable pub next_of : State → Lent → ℕ → Listed

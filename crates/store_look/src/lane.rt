@@ -10,7 +10,7 @@ ghost use Rattle.store_look.specs.Look.{reading, read_at, read_of, on_block, blo
 
 use crate::{Answer, Lookup, Outcome, ToldAnswer, ToldLookup};
 use expull_walk::Block;
-use records::Head;
+use limits::Refusal;
 use shared_arena_hashmap::Met;
 use store_state::{Name, State};
 
@@ -76,8 +76,7 @@ fn length_at(keys: &[u8], at: u32) -> Answer
     requires { (at + 2 ≤ length keys.now) × (value_place keys.now at + 16 ≤ length keys.now) }
     ensures { result ≡ length_at keys.now at }
 {
-    let head = records::get_head(keys, at);
-    let Head::Sound(h) = head else {
+    let Some(h) = records::get_head(keys, at) else {
         return Answer::Refused(4, 0);
     };
     Answer::Found(Outcome::Length(expull_header::lane_length(h)))
@@ -160,8 +159,7 @@ pub fn read_at(
         ≡ read_at st (lent table.now keys.now lists.now) at output.old }
 {
     let arena = st.list_arena;
-    let head = records::get_head(keys, at);
-    let Head::Sound(h) = head else {
+    let Some(h) = records::get_head(keys, at) else {
         return Answer::Refused(4, 0);
     };
     if !expull_walk::are_good_blocks(lists, arena, h.head, h.number - 2) {
@@ -206,13 +204,13 @@ pub fn read(
     }
 }
 
-fn on_block(b: Block) -> Answer
-    ensures { result ≡ on_block b }
+fn on_block(found: Result<Option<Block>, Refusal>) -> Answer
+    ensures { result ≡ on_block found }
 {
-    match b {
-        Block::BlockAt(at, n) => Answer::Found(Outcome::Block(at, n as u64)),
-        Block::NoBlock => Answer::Found(Outcome::NoSuchBlock),
-        Block::BadBlock => Answer::Refused(4, 0),
+    match found {
+        Ok(Some(b)) => Answer::Found(Outcome::Block(b.at, b.length as u64)),
+        Ok(None) => Answer::Found(Outcome::NoSuchBlock),
+        Err(refusal) => Answer::Refused(refusal.number(), 0),
     }
 }
 
@@ -222,8 +220,7 @@ fn block_at(st: State, table: &[u32], keys: &[u8], lists: &[u8], at: u32, index:
     ensures { result ≡ block_at st (lent table.now keys.now lists.now) index at }
 {
     let arena = st.list_arena;
-    let head = records::get_head(keys, at);
-    let Head::Sound(h) = head else {
+    let Some(h) = records::get_head(keys, at) else {
         return Answer::Refused(4, 0);
     };
     on_block(expull_walk::find_block(lists, arena, h, index))

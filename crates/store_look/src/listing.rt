@@ -7,21 +7,21 @@ ghost use Rattle.store_look.specs.Look.{lent, on_next, next_of, count_of};
 
 use crate::{Counted, Listed};
 use memory_arena::Arena;
-use shared_arena_hashmap::Next;
+use shared_arena_hashmap::Occupied;
 use store_state::State;
 
-fn on_next(keys: &[u8], arena: Arena, next: Next) -> Listed
+fn on_next(keys: &[u8], arena: Arena, next: Option<Occupied>) -> Listed
     requires { sensible arena (length keys.now) ≡ true }
     ensures { result ≡ on_next next arena keys.now }
 {
     match next {
-        Next::Occupied(i, at) => {
-            if records::is_good_record(keys, arena, at) {
-                return Listed::Bucket(i, at);
+        Some(o) => {
+            if records::is_good_record(keys, arena, o.place) {
+                return Listed::Bucket(o.bucket, o.place);
             }
             Listed::Stopped(4)
         }
-        Next::NoMore => Listed::NoMore,
+        None => Listed::NoMore,
     }
 }
 

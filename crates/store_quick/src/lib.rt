@@ -18,7 +18,6 @@ ghost use Rattle.store_append.specs.Append.{append_standing, append_of};
 ghost use Rattle.store_quick.specs.Quick.{Quick, quickly, QuickOf, TriedOf};
 
 use expull_append::Extended;
-use records::Head;
 use shared_arena_hashmap::Met;
 use store_state::{Name, State};
 
@@ -39,8 +38,7 @@ fn is_quick(st: State, keys: &[u8], at: u32, n: usize) -> bool
     ensures { result ≡ true → Quick st keys.now at n }
 {
     let arena = st.list_arena;
-    let head = records::get_head(keys, at);
-    let Head::Sound(h) = head else {
+    let Some(h) = records::get_head(keys, at) else {
         return false;
     };
     if !expull_append::is_good_tail(arena, h) {

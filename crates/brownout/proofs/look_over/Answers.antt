@@ -18,7 +18,7 @@ use Rattle.brownout_faults.specs.Check.{vacant, record_in}
 use Rattle.brownout.specs.Code.{step, judged}
 use Rattle.brownout.proofs.Once.{Judged, judged_facts}
 use Rattle.brownout.proofs.look_over.Goals as goal
-use Rattle.brownout.proofs.look_over.Goals.{After-first_bucket-first, Else-at, Else-fault-ne0, In-Sound}
+use Rattle.brownout.proofs.look_over.Goals.{After-first_bucket-first, Else-at, Else-fault-ne0, In-Some}
 
 inside : (c : After-first_bucket-first) → In c.args.st (lent c.args.table.now c.args.keys.now c.args.lists.now)
     c.requires.0 c.first_bucket-first.result c.args.i
@@ -41,10 +41,8 @@ full c =
 fine : (c : Else-fault-ne0) → Judged c.args.st (lent c.args.table.now c.args.keys.now c.args.lists.now) c.args.i
 fine c =
     judged_facts c.args.st (lent c.args.table.now c.args.keys.now c.args.lists.now) c.args.i (ap (judged c.args.st
-    (lent c.args.table.now c.args.keys.now c.args.lists.now) c.args.i) (sym (let it : (get_or c.args.table.now (2 *
-    (c.first_bucket-first.result + c.args.i)) 0) ≡ record_in c.args.st (lent c.args.table.now c.args.keys.now
-    c.args.lists.now) c.args.i = record_code c.args.st (lent c.args.table.now c.args.keys.now c.args.lists.now)
-    c.first_bucket-first.result c.args.i c.first_bucket-first.ensures in it)) ∙ sym c.judge-fault.ensures ∙
+    (lent c.args.table.now c.args.keys.now c.args.lists.now) c.args.i) (sym (record_code c.args.st (lent c.args.table.now c.args.keys.now c.args.lists.now)
+    c.first_bucket-first.result c.args.i c.first_bucket-first.ensures)) ∙ sym c.judge-fault.ensures ∙
     c.if-fault-ne0.false)
 
 held : (c : Else-fault-ne0) → Held c.args.st (lent c.args.table.now c.args.keys.now c.args.lists.now) c.requires.0
@@ -52,20 +50,16 @@ held : (c : Else-fault-ne0) → Held c.args.st (lent c.args.table.now c.args.key
 held c =
     record-held c.args.st (lent c.args.table.now c.args.keys.now c.args.lists.now) c.requires.0 (get_or
     c.args.table.now (2 * (c.first_bucket-first.result + c.args.i)) 0) (ap (good_record c.args.st.key_arena
-    c.args.keys.now) (let it : (get_or c.args.table.now (2 * (c.first_bucket-first.result + c.args.i)) 0) ≡
-    record_in c.args.st (lent c.args.table.now c.args.keys.now c.args.lists.now) c.args.i = record_code c.args.st
+    c.args.keys.now) (record_code c.args.st
     (lent c.args.table.now c.args.keys.now c.args.lists.now) c.first_bucket-first.result c.args.i
-    c.first_bucket-first.ensures in it) ∙ (let it : Judged c.args.st (lent c.args.table.now c.args.keys.now
-    c.args.lists.now) c.args.i = judged_facts c.args.st (lent c.args.table.now c.args.keys.now c.args.lists.now)
-    c.args.i (ap (judged c.args.st (lent c.args.table.now c.args.keys.now c.args.lists.now) c.args.i) (sym (let it :
-    (get_or c.args.table.now (2 * (c.first_bucket-first.result + c.args.i)) 0) ≡ record_in c.args.st (lent
-    c.args.table.now c.args.keys.now c.args.lists.now) c.args.i = record_code c.args.st (lent c.args.table.now
-    c.args.keys.now c.args.lists.now) c.first_bucket-first.result c.args.i c.first_bucket-first.ensures in it)) ∙
-    sym c.judge-fault.ensures ∙ c.if-fault-ne0.false) in it).good)
+    c.first_bucket-first.ensures) ∙ (judged_facts c.args.st (lent c.args.table.now c.args.keys.now c.args.lists.now)
+    c.args.i (ap (judged c.args.st (lent c.args.table.now c.args.keys.now c.args.lists.now) c.args.i) (sym (record_code c.args.st (lent c.args.table.now
+    c.args.keys.now c.args.lists.now) c.first_bucket-first.result c.args.i c.first_bucket-first.ensures)) ∙
+    sym c.judge-fault.ensures ∙ c.if-fault-ne0.false)).good)
 
-headed : (c : In-Sound) → Headed c.args.keys.now (get_or c.args.table.now (2 * (c.first_bucket-first.result +
-    c.args.i)) 0) c.in-Sound.h
-headed c = head-found _ _ _ (sym c.get_head-head.ensures ∙ c.in-Sound.is)
+headed : (c : In-Some) → Headed c.args.keys.now (get_or c.args.table.now (2 * (c.first_bucket-first.result +
+    c.args.i)) 0) c.in-Some.h
+headed c = head-found _ _ _ (sym c.in-Some.ensures)
 
 pub first_bucket-first-requires : goal.first_bucket-first-requires
 first_bucket-first-requires c =
@@ -117,15 +111,14 @@ returns-then-fault-ne0 c =
     c.args.i)) 0) c.judge-fault.result (placed (goal.at.returns-then-fault-ne0 c).After-first_bucket-first)
     c.judge-fault.ensures c.if-fault-ne0.true
 
-pub get_head-head-requires : goal.get_head-head-requires
-get_head-head-requires c = let h = held (goal.at.get_head-head-requires c).Else-fault-ne0 in (h.length-in, h.value_in)
+pub get_head-requires : goal.get_head-requires
+get_head-requires c = let h = held (goal.at.get_head-requires c).Else-fault-ne0 in (h.length-in, h.value_in)
 
 pub returns-in_default : goal.returns-in_default
 returns-in_default c =
     not_both (header_sound c.args.keys.now (get_or c.args.table.now (2 * (c.first_bucket-first.result + c.args.i))
     0)) (ap (header_sound c.args.keys.now) (placed (goal.at.returns-in_default c).After-first_bucket-first) ∙ (fine
-    (goal.at.returns-in_default c).Else-fault-ne0).header) (head_lost _ _ (sym c.get_head-head.ensures ∙
-    c.in_default.is))
+    (goal.at.returns-in_default c).Else-fault-ne0).header) (head_lost _ _ (sym c.in_default.ensures))
 
 pub mark_lane-requires : goal.mark_lane-requires
 mark_lane-requires c =
@@ -138,9 +131,9 @@ mark_lane-requires c =
       list_short = lists_short c.args.st (lent
           c.args.table.now c.args.keys.now c.args.lists.now) c.requires.0;
       header = (headed (goal.at.mark_lane-requires
-          c).In-Sound).ends;
+          c).In-Some).ends;
       blocks = ap (λ (x : Header). good_blocks c.args.st.list_arena c.args.lists.now x.head
-          (block_count x)) ((headed (goal.at.mark_lane-requires c).In-Sound).is ∙ ap (header_of c.args.keys.now) (placed
+          (block_count x)) ((headed (goal.at.mark_lane-requires c).In-Some).is ∙ ap (header_of c.args.keys.now) (placed
           (goal.at.mark_lane-requires c).After-first_bucket-first)) ∙ (fine (goal.at.mark_lane-requires
           c).Else-fault-ne0).blocks;
       room = c.requires.1.1;
@@ -154,5 +147,5 @@ returns c =
     let a = c.args in over_marked a.st (lent c.args.table.now c.args.keys.now c.args.lists.now) a.i a.marks.now
     (full (goal.at.returns c).Else-at) (get_or c.args.table.now (2 * (c.first_bucket-first.result + c.args.i)) 0)
     c.judge-fault.result (placed (goal.at.returns c).After-first_bucket-first) c.judge-fault.ensures
-    c.if-fault-ne0.false c.in-Sound.h (headed (goal.at.returns c).In-Sound).is (step c.mark_lane.result
+    c.if-fault-ne0.false c.in-Some.h (headed (goal.at.returns c).In-Some).is (step c.mark_lane.result
     c.mark_lane.new.marks) c.mark_lane.ensures

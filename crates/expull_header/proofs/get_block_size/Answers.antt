@@ -8,7 +8,7 @@ use Rattle.expull_header.proofs.get_block_size.Goals as goal
 pub returns : goal.returns
 returns c =
     let a = c.args in
-    let e = size_shift a.number c.least-exp.result c.least-exp.ensures in (
+    let e = size_shift a.number c.min-exp.result c.min-exp.ensures in (
       e,
       (
         subst (λ (n : ℕ). 0 < n) (sym e)

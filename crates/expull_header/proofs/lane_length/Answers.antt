@@ -15,12 +15,7 @@ facts c = sound_facts c.args.h 0 c.requires
 
 least : (c : Else-h-eq-FIRST_BLOCK_NUM) → 8 ≤ block_size c.args.h.number
 least c =
-    size_least c.args.h.number (omega (
-      arith,
-      (let it : SoundHeader c.args.h 0 = sound_facts c.args.h 0 c.requires
-          in it).shape.from,
-      c.if-h-eq-FIRST_BLOCK_NUM.false,
-    ))
+    size_least c.args.h.number (omega (arith, (sound_facts c.args.h 0 c.requires).shape.from))
 
 pub returns-then-h-eq-FIRST_BLOCK_NUM : goal.returns-then-h-eq-FIRST_BLOCK_NUM
 returns-then-h-eq-FIRST_BLOCK_NUM c = sym (length_none c.args.h c.if-h-eq-FIRST_BLOCK_NUM.true)

@@ -1,4 +1,4 @@
--- The loop's invariant: the blocks before block i are good, so the rest decides; its measure is how many are left.
+-- The loop's invariant: the blocks before block i are good, so the rest decides.
 -- Assumes nothing.
 use Prim.Native.Nat.{◌+◌, ◌≤◌}
 use mathlib.Core.Path.{refl, sym}

@@ -1,11 +1,7 @@
--- The loop's invariant: the blocks before block i are good, so the rest decides; its measure is how many are left.
+-- The loop's invariant: the blocks before block i are good, so the rest decides.
 -- Assumes nothing.
-use Prim.Native.Nat.{◌-◌}
 use Rattle.lane_pieces.proofs.Loops.{Testing}
 use Rattle.lane_pieces.proofs.are_good_on.Given as goal
 
 abbrev pub invariant-loop-i : goal.invariant-loop-i
 invariant-loop-i l = Testing l.arena l.lists l.first l.end l.place l.b l.i
-
-abbrev pub decreases-loop-i : goal.decreases-loop-i
-decreases-loop-i l = l.end - l.i

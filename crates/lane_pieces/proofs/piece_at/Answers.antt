@@ -10,53 +10,50 @@ use Rattle.lane_pieces.specs.declared.Pieced.TheVariants.{Given, Refused}
 use Rattle.lane_pieces.specs.Piece.{piece_length, out, piece_at}
 use Rattle.lane_pieces.proofs.Pieces.{piece_4, piece_2, piece_8, piece_none, piece-put}
 use Rattle.lane_pieces.proofs.piece_at.Goals as goal
-use Rattle.lane_pieces.proofs.piece_at.Goals.{After-least-n, After-slice_known-2-1, Else-is_above, Else-room-eq0, In-Sound}
+use Rattle.lane_pieces.proofs.piece_at.Goals.{After-min-n, After-slice_known-2-1, Else-is_above, Else-room-eq0, In-Some}
 
 -- the header that was found
-headed : (c : In-Sound) → Headed c.args.keys.now c.args.at c.in-Sound.h
-headed c = head-found _ _ _ (sym c.get_head-head.ensures ∙ c.in-Sound.is)
+headed : (c : In-Some) → Headed c.args.keys.now c.args.at c.in-Some.h
+headed c = head-found _ _ _ (sym c.in-Some.ensures)
 
 -- the count isn't above it; there is a place; how many bytes that gives
-counted : (c : Else-is_above) → c.args.given ≤ lane_length (c.in-Sound.h)
+counted : (c : Else-is_above) → c.args.given ≤ lane_length (c.in-Some.h)
 counted c = omega (arith, c.lane_length-length.ensures, c.if-is_above.false)
 
 placed : (c : Else-room-eq0) → 0 < length c.args.output.now
 placed c = omega (arith, c.if-room-eq0.false)
 
-many : (c : After-least-n) → c.least-n.result ≡ piece_length (c.in-Sound.h) c.args.given (length c.args.output.now)
+many : (c : After-min-n) → c.min-n.result ≡ piece_length (c.in-Some.h) c.args.given (length c.args.output.now)
 many c =
-    let a = c.args in c.least-n.ensures ∙ ap (λ (n : ℕ). min (length a.output.now) (n - a.given))
+    let a = c.args in c.min-n.ensures ∙ ap (λ (n : ℕ). min (length a.output.now) (n - a.given))
     c.lane_length-length.ensures
 
 -- what it comes to, by whether the blocks that were met are good
 given_out : (c : After-slice_known-2-1) → (t : Bool) → c.put_piece.result ≡ t → piece_at c.args.arena
-    c.args.keys.now c.args.lists.now c.args.given c.args.at c.args.output.now ≡ out (cond t (Given c.least-n.result)
+    c.args.keys.now c.args.lists.now c.args.given c.args.at c.args.output.now ≡ out (cond t (Given c.min-n.result)
     (Refused 4 0)) c.put_piece.new.output
 given_out c t e =
-    let a = c.args in piece-put a.arena a.keys.now a.lists.now a.given a.at a.output.now (let it : Headed
-    c.args.keys.now c.args.at c.in-Sound.h = head-found _ _ _ (sym c.get_head-head.ensures ∙ c.in-Sound.is) in it)
-    (let it : c.args.given ≤ lane_length (c.in-Sound.h) = omega (
+    let a = c.args in piece-put a.arena a.keys.now a.lists.now a.given a.at a.output.now (head-found _ _ _ (sym c.in-Some.ensures))
+    (omega (
       arith,
       c.lane_length-length.ensures,
       c.if-is_above.false,
-    ) in it) (let it : 0 < length c.args.output.now = omega (arith, c.if-room-eq0.false) in
-    it) c.least-n.result (let it : c.least-n.result ≡ piece_length (c.in-Sound.h) c.args.given (length
-    c.args.output.now) = let a = c.args in c.least-n.ensures ∙ ap (λ (n : ℕ). min (length a.output.now) (n -
-    a.given)) c.lane_length-length.ensures in it) c.put_piece.ensures ∙ ap (λ (b : Bool). out (cond b (Given
-    c.least-n.result) (Refused 4 0)) c.put_piece.new.output) e
+    )) (omega (arith, c.if-room-eq0.false)) c.min-n.result (let a = c.args in c.min-n.ensures ∙ ap (λ (n : ℕ). min (length a.output.now) (n -
+    a.given)) c.lane_length-length.ensures) c.put_piece.ensures ∙ ap (λ (b : Bool). out (cond b (Given
+    c.min-n.result) (Refused 4 0)) c.put_piece.new.output) e
 
 pub returns-in_default : goal.returns-in_default
 returns-in_default c =
     sym (piece_4 c.args.arena c.args.keys.now c.args.lists.now c.args.given c.args.at c.args.output.now (head_lost _
-    _ (sym c.get_head-head.ensures ∙ c.in_default.is)))
+    _ (sym c.in_default.ensures)))
 
 pub lane_length-length-requires : goal.lane_length-length-requires
-lane_length-length-requires c = (headed (goal.at.lane_length-length-requires c).In-Sound).ends
+lane_length-length-requires c = (headed (goal.at.lane_length-length-requires c).In-Some).ends
 
 pub returns-then-is_above : goal.returns-then-is_above
 returns-then-is_above c =
     let a = c.args in sym (piece_2 a.arena a.keys.now a.lists.now a.given a.at a.output.now (headed
-    (goal.at.returns-then-is_above c).In-Sound) (omega (
+    (goal.at.returns-then-is_above c).In-Some) (omega (
       arith,
       c.lane_length-length.ensures,
       c.if-is_above.true,
@@ -65,23 +62,23 @@ returns-then-is_above c =
 pub returns-then-room-eq0 : goal.returns-then-room-eq0
 returns-then-room-eq0 c =
     let a = c.args in ap (λ (n : ℕ). out (Refused 8 n) a.output.now) c.lane_length-length.ensures ∙ sym (piece_8
-    a.arena a.keys.now a.lists.now a.given a.at a.output.now (headed (goal.at.returns-then-room-eq0 c).In-Sound)
+    a.arena a.keys.now a.lists.now a.given a.at a.output.now (headed (goal.at.returns-then-room-eq0 c).In-Some)
     (counted (goal.at.returns-then-room-eq0 c).Else-is_above) c.if-room-eq0.true)
 
 pub returns-then-n-eq0 : goal.returns-then-n-eq0
 returns-then-n-eq0 c =
     let a = c.args in sym (piece_none a.arena a.keys.now a.lists.now a.given a.at a.output.now (headed
-    (goal.at.returns-then-n-eq0 c).In-Sound) (counted (goal.at.returns-then-n-eq0 c).Else-is_above) (placed
-    (goal.at.returns-then-n-eq0 c).Else-room-eq0) c.least-n.result (many (goal.at.returns-then-n-eq0
-    c).After-least-n) c.if-n-eq0.true)
+    (goal.at.returns-then-n-eq0 c).In-Some) (counted (goal.at.returns-then-n-eq0 c).Else-is_above) (placed
+    (goal.at.returns-then-n-eq0 c).Else-room-eq0) c.min-n.result (many (goal.at.returns-then-n-eq0
+    c).After-min-n) c.if-n-eq0.true)
 
 pub put_piece-requires : goal.put_piece-requires
 put_piece-requires c =
-    let e = many (goal.at.put_piece-requires c).After-least-n in
+    let e = many (goal.at.put_piece-requires c).After-min-n in
     let k = counted (goal.at.put_piece-requires c).Else-is_above in record {
       sense = c.requires.0;
       sound =
-          (headed (goal.at.put_piece-requires c).In-Sound).ends;
+          (headed (goal.at.put_piece-requires c).In-Some).ends;
       some_bytes = omega (arith, c.if-n-eq0.false);
       in_lane =
           omega arith;

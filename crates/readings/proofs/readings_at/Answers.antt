@@ -16,41 +16,41 @@ use Rattle.readings.specs.declared.Recalled.TheVariants.{Readings, Refused}
 use Rattle.readings.specs.Readings.{out}
 use Rattle.readings.proofs.Found.{readings_4, readings_4_block, readings_8, readings_bad, readings_done}
 use Rattle.readings.proofs.readings_at.Goals as goal
-use Rattle.readings.proofs.readings_at.Goals.{Else-not-are_good_blocks, In-Sound}
+use Rattle.readings.proofs.readings_at.Goals.{Else-not-are_good_blocks, In-Some}
 
 -- what the header that was found says
-headed : (c : In-Sound) → Headed c.args.keys.now c.args.at c.in-Sound.h
-headed c = head-found _ _ _ (sym c.get_head-head.ensures ∙ c.in-Sound.is)
+headed : (c : In-Some) → Headed c.args.keys.now c.args.at c.in-Some.h
+headed c = head-found _ _ _ (sym c.in-Some.ensures)
 
 -- all its blocks are good
-good : (c : Else-not-are_good_blocks) → good_blocks c.args.st.list_arena c.args.lists.now c.in-Sound.h.head
-    (block_count c.in-Sound.h) ≡ true
+good : (c : Else-not-are_good_blocks) → good_blocks c.args.st.list_arena c.args.lists.now c.in-Some.h.head
+    (block_count c.in-Some.h) ≡ true
 good c = sym c.are_good_blocks.ensures ∙ c.if-not-are_good_blocks.false
 
 pub returns-in_default : goal.returns-in_default
 returns-in_default c =
     let m = lent c.args.table.now c.args.keys.now c.args.lists.now in sym (readings_4 c.args.st m c.args.at
-    c.args.output.now (head_lost _ _ (sym c.get_head-head.ensures ∙ c.in_default.is)))
+    c.args.output.now (head_lost _ _ (sym c.in_default.ensures)))
 
 pub overflow_sub-h : goal.overflow_sub-h
-overflow_sub-h c = omega (arith, (sound_facts _ 0 (headed (goal.at.overflow_sub-h c).In-Sound).ends).shape.from)
+overflow_sub-h c = omega (arith, (sound_facts _ 0 (headed (goal.at.overflow_sub-h c).In-Some).ends).shape.from)
 
 pub are_good_blocks-requires : goal.are_good_blocks-requires
 are_good_blocks-requires c =
-    (c.requires.0, omega (arith, (sound_facts _ 0 (headed (goal.at.are_good_blocks-requires c).In-Sound).ends).to))
+    (c.requires.0, omega (arith, (sound_facts _ 0 (headed (goal.at.are_good_blocks-requires c).In-Some).ends).to))
 
 pub returns-then-not-are_good_blocks : goal.returns-then-not-are_good_blocks
 returns-then-not-are_good_blocks c =
     let a = c.args in
     let m = lent a.table.now a.keys.now a.lists.now in sym (readings_4_block a.st m a.at a.output.now _ (headed
-    (goal.at.returns-then-not-are_good_blocks c).In-Sound) (sym c.are_good_blocks.ensures ∙
+    (goal.at.returns-then-not-are_good_blocks c).In-Some) (sym c.are_good_blocks.ensures ∙
     c.if-not-are_good_blocks.true))
 
 pub count_lane-counted-requires : goal.count_lane-counted-requires
 count_lane-counted-requires c = (
   c.requires.0,
   (
-    (headed (goal.at.count_lane-counted-requires c).In-Sound).ends,
+    (headed (goal.at.count_lane-counted-requires c).In-Some).ends,
     good
         (goal.at.count_lane-counted-requires c).Else-not-are_good_blocks,
   ),
@@ -61,7 +61,7 @@ returns-then-output-n c =
     let a = c.args in
     let m = lent a.table.now a.keys.now a.lists.now in ap (λ (k : ℕ). out (Refused 8 k) a.output.now)
     c.count_lane-counted.ensures.0 ∙ sym (readings_8 a.st m a.at a.output.now _ (headed
-    (goal.at.returns-then-output-n c).In-Sound) (good (goal.at.returns-then-output-n c).Else-not-are_good_blocks)
+    (goal.at.returns-then-output-n c).In-Some) (good (goal.at.returns-then-output-n c).Else-not-are_good_blocks)
     (subst (λ (k : ℕ). length a.output.now < k) c.count_lane-counted.ensures.0 c.if-output-n.true))
 
 pub returns-then-fault-ne0 : goal.returns-then-fault-ne0
@@ -70,7 +70,7 @@ returns-then-fault-ne0 c =
     let m = lent a.table.now a.keys.now a.lists.now in
     let f = c.end_of-fault.ensures ∙ c.count_lane-counted.ensures.1 in (λ i. out (Refused (f i)
     (c.count_lane-counted.ensures.0 i)) a.output.now) ∙ sym (readings_bad a.st m a.at a.output.now _ (headed
-    (goal.at.returns-then-fault-ne0 c).In-Sound) (good (goal.at.returns-then-fault-ne0 c).Else-not-are_good_blocks)
+    (goal.at.returns-then-fault-ne0 c).In-Some) (good (goal.at.returns-then-fault-ne0 c).Else-not-are_good_blocks)
     (subst (λ (k : ℕ). k ≤ length a.output.now) c.count_lane-counted.ensures.0 c.if-output-n.false) (λ z.
     c.if-fault-ne0.true (f ∙ z)))
 
@@ -78,7 +78,7 @@ pub take_lane-requires : goal.take_lane-requires
 take_lane-requires c = (
   c.requires.0,
   (
-    (headed (goal.at.take_lane-requires c).In-Sound).ends,
+    (headed (goal.at.take_lane-requires c).In-Some).ends,
     good (goal.at.take_lane-requires
         c).Else-not-are_good_blocks,
   ),
@@ -90,7 +90,7 @@ returns c =
     let m = lent a.table.now a.keys.now a.lists.now in
     let f = c.end_of-fault.ensures ∙ c.count_lane-counted.ensures.1 in
     let l = subst (λ (k : ℕ). k ≤ length a.output.now) c.count_lane-counted.ensures.0 c.if-output-n.false in
-    let o = ap (λ (t : Out). t.output) c.take_lane.ensures ∙ (ran (lane_bytes a.lists.now c.in-Sound.h)
+    let o = ap (λ (t : Out). t.output) c.take_lane.ensures ∙ (ran (lane_bytes a.lists.now c.in-Some.h)
     a.output.now).output l in (λ i. out (Readings (c.count_lane-counted.ensures.0 i)) (o i)) ∙ sym (readings_done
-    a.st m a.at a.output.now _ (headed (goal.at.returns c).In-Sound) (good (goal.at.returns
+    a.st m a.at a.output.now _ (headed (goal.at.returns c).In-Some) (good (goal.at.returns
     c).Else-not-are_good_blocks) l (sym f ∙ c.if-fault-ne0.false))

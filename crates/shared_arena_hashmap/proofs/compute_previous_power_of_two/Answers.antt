@@ -30,9 +30,6 @@ found c = highest c.args.n (omega arith) c.ranges.n.fits
 pub returns-then-n-eq0 : goal.returns-then-n-eq0
 returns-then-n-eq0 c = rounded_0 ∙ ap rounded_down (sym c.if-n-eq0.true)
 
-pub overflow_sub-result : goal.overflow_sub-result
-overflow_sub-result c = (found (goal.at.overflow_sub-result c).Else-n-eq0).zeros
-
 pub returns : goal.returns
 returns c =
     omega (

@@ -17,9 +17,10 @@ stands c = sym c.is_good_record.ensures ∙ c.if-not-is_good_record.false
 compared : (c : After-fast_short_slice_compare) → (u : Bool) → c.fast_short_slice_compare.result ≡ u → seen_record
     c.args.keys.now c.args.arena c.args.at c.args.name.now ≡ cond u (Same c.args.at) Other
 compared c u e =
-    let a = c.args in seen-good a.keys.now a.arena a.at a.name.now c.key_length-n.result u (let it : good_record
-    c.args.arena c.args.keys.now c.args.at ≡ true = sym c.is_good_record.ensures ∙ c.if-not-is_good_record.false in
-    it) c.key_length-n.ensures.0 (sym c.fast_short_slice_compare.ensures ∙ e)
+    let a = c.args in
+    let g : good_record a.arena a.keys.now a.at ≡ true = sym c.is_good_record.ensures ∙ c.if-not-is_good_record.false in
+    seen-good a.keys.now a.arena a.at a.name.now c.key_length-n.result u g c.key_length-n.ensures.0
+    (sym c.fast_short_slice_compare.ensures ∙ e)
 
 pub returns-then-not-is_good_record : goal.returns-then-not-is_good_record
 returns-then-not-is_good_record c =

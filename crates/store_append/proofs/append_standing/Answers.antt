@@ -12,22 +12,21 @@ use Rattle.expull_header.proofs.Laws.{sound_facts}
 use Rattle.expull_append.specs.Append.{writing, appended, good_tail}
 use Rattle.expull_header.specs.declared.Header.{Header}
 use Rattle.store_append.proofs.append_standing.Goals as goal
-use Rattle.store_append.proofs.append_standing.Goals.{Else-not-is_good_tail, In-Sound}
+use Rattle.store_append.proofs.append_standing.Goals.{Else-not-is_good_tail, In-Some}
 
 -- what the header that was found says
-headed : (c : In-Sound) → Headed c.args.keys.now c.args.at c.in-Sound.h
-headed c = head-found _ _ _ (sym c.get_head-head.ensures ∙ c.in-Sound.is)
+headed : (c : In-Some) → Headed c.args.keys.now c.args.at c.in-Some.h
+headed c = head-found _ _ _ (sym c.in-Some.ensures)
 
 tail : (c : Else-not-is_good_tail) → good_tail c.args.st.list_arena (header_of c.args.keys.now c.args.at) ≡ true
 tail c =
-    sym (c.is_good_tail.ensures ∙ ap (good_tail c.args.st.list_arena) (let it : Headed c.args.keys.now c.args.at
-    c.in-Sound.h = head-found _ _ _ (sym c.get_head-head.ensures ∙ c.in-Sound.is) in it).is) ∙
+    sym (c.is_good_tail.ensures ∙ ap (good_tail c.args.st.list_arena) (head-found _ _ _ (sym c.in-Some.ensures)).is) ∙
     c.if-not-is_good_tail.false
 
 pub returns-in_default : goal.returns-in_default
 returns-in_default c =
     sym (standing_4 c.args.st (lent c.args.table.now c.args.keys.now c.args.lists.now) c.args.bytes.now
-    c.args.bytes.now c.args.at (head_lost _ _ (sym c.get_head-head.ensures ∙ c.in_default.is)))
+    c.args.bytes.now c.args.at (head_lost _ _ (sym c.in_default.ensures)))
 
 pub is_good_tail-requires : goal.is_good_tail-requires
 is_good_tail-requires c =
@@ -36,7 +35,7 @@ is_good_tail-requires c =
 
 pub returns-then-not-is_good_tail : goal.returns-then-not-is_good_tail
 returns-then-not-is_good_tail c =
-    let h = headed (goal.at.returns-then-not-is_good_tail c).In-Sound in sym (standing_4_tail c.args.st (lent
+    let h = headed (goal.at.returns-then-not-is_good_tail c).In-Some in sym (standing_4_tail c.args.st (lent
     c.args.table.now c.args.keys.now c.args.lists.now) c.args.bytes.now c.args.bytes.now c.args.at (sym
     (c.is_good_tail.ensures ∙ ap (good_tail c.args.st.list_arena) h.is) ∙ c.if-not-is_good_tail.true))
 
@@ -44,14 +43,14 @@ pub blocks_fit-requires : goal.blocks_fit-requires
 blocks_fit-requires c = (
   (whole_facts c.args.st (length c.args.table.now) (length c.args.keys.now) (length c.args.lists.now)
       c.requires.0).list_arena,
-  (sound_facts _ 0 (headed (goal.at.blocks_fit-requires c).In-Sound).ends).to,
+  (sound_facts _ 0 (headed (goal.at.blocks_fit-requires c).In-Some).ends).to,
 )
 
 pub returns-then-not-blocks_fit : goal.returns-then-not-blocks_fit
 returns-then-not-blocks_fit c =
     let m = lent c.args.table.now c.args.keys.now c.args.lists.now in
-    let h = headed (goal.at.returns-then-not-blocks_fit c).In-Sound in
-    let n = plan_none c.args.bytes.now (writing c.args.lists.now c.args.st.list_arena c.in-Sound.h) (sym
+    let h = headed (goal.at.returns-then-not-blocks_fit c).In-Some in
+    let n = plan_none c.args.bytes.now (writing c.args.lists.now c.args.st.list_arena c.in-Some.h) (sym
     c.blocks_fit.ensures ∙ c.if-not-blocks_fit.true) in sym (standing_on c.args.st m c.args.bytes.now
     c.args.bytes.now c.args.at _ h.sound (tail (goal.at.returns-then-not-blocks_fit c).Else-not-is_good_tail) (ap (λ
     (k : Header). appended c.args.bytes.now (writing c.args.lists.now c.args.st.list_arena k)) (sym h.is) ∙ n) ∙
@@ -59,7 +58,7 @@ returns-then-not-blocks_fit c =
 
 pub write_standing-requires : goal.write_standing-requires
 write_standing-requires c =
-    let h = headed (goal.at.write_standing-requires c).In-Sound in record {
+    let h = headed (goal.at.write_standing-requires c).In-Some in record {
       planned = record {
         whole = c.requires.0;
         sound = h.ends;
@@ -73,6 +72,6 @@ write_standing-requires c =
 pub returns : goal.returns
 returns c =
     let m = lent c.args.table.now c.args.keys.now c.args.lists.now in
-    let h = headed (goal.at.returns c).In-Sound in c.write_standing.ensures ∙ sym (standing_on c.args.st m
+    let h = headed (goal.at.returns c).In-Some in c.write_standing.ensures ∙ sym (standing_on c.args.st m
     c.args.bytes.now c.args.bytes.now c.args.at _ h.sound (tail (goal.at.returns c).Else-not-is_good_tail) (ap (λ (k
     : Header). appended c.args.bytes.now (writing c.args.lists.now c.args.st.list_arena k)) (sym h.is)))

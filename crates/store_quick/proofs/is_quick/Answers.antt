@@ -23,7 +23,7 @@ returns-then-n-eq0 c = λ e. absurd (false≢true e)
 
 pub returns : goal.returns
 returns c =
-    let h = head-found c.args.keys.now c.args.at _ (sym c.get_head-head.ensures ∙ c.in-Sound.is) in λ e. record {
+    let h = head-found c.args.keys.now c.args.at _ (sym c.in-Some.ensures) in λ e. record {
       sound = h.sound;
       tail = sym (c.is_good_tail.ensures ∙ ap (good_tail c.args.st.list_arena) h.is) ∙
           c.if-not-is_good_tail.false;

@@ -24,9 +24,6 @@ below s =
 pub overflow_sub-i : goal.overflow_sub-i
 overflow_sub-i c = (power_facts c.args.l c.requires.l_value.0).some
 
-pub overflow_add-first : goal.overflow_add-first
-overflow_add-first c = omega (arith, below (goal.at.overflow_add-first c).Start, c.requires.l_value.1)
-
 pub set_bucket-requires : goal.set_bucket-requires
 set_bucket-requires c = omega (arith, below (goal.at.set_bucket-requires c).Start, c.requires.l_value.1)
 

@@ -1,54 +1,33 @@
--- `shared_arena_hashmap::grow::free` meets its contract. The invariant: the first empty bucket of the probe is the
--- first among `left` from `i`. Assumes nothing.
-use mathlib.Core.Path.{refl, sym, ◌∙◌}
+-- `shared_arena_hashmap::grow::free` meets its contract. Assumes nothing.
+use mathlib.Core.Path.{sym, ◌∙◌}
 use native.Mathlib.Omega.{arith}
-use native.Mathlib.Nat.{mod-lt}
+use native.Mathlib.Nat.{mod-lt, sub-zero}
 use borrow.Author.Tests.{eq-eqb, ne_eqb}
 use Rattle.shared_arena_hashmap.specs.Grow.{free_of}
 use Rattle.shared_arena_hashmap.proofs.Laws.{free_turn, free_end}
 use Rattle.shared_arena_hashmap.proofs.grow.free.Goals as goal
 
-pub loop-left-init : goal.loop-left-init
+pub loop-before-init : goal.loop-before-init
 unfolding free_of
-loop-left-init c = (mod-lt _ c.requires.0, refl)
+loop-before-init c = (mod-lt _ c.requires.0, rw sub-zero)
 
-pub overflow_add-w : goal.overflow_add-w
-overflow_add-w c = omega arith
+pub returns-then-address : goal.returns-then-address
+returns-then-address c = (
+  sym (c.loop-before.invariant.1 ∙ free_turn c.args.table.now c.args.first c.args.l c.args.l c.loop-before.i
+      c.loop-before._before (omega arith) ∙ rw (eq-eqb _ _ c.if-address.true)),
+  omega arith,
+)
 
-pub overflow_mul-w : goal.overflow_mul-w
-overflow_mul-w c = omega arith
-
-pub offset_bounds-table-w : goal.offset_bounds-table-w
-offset_bounds-table-w c = omega arith
-
-pub bounds-table-w : goal.bounds-table-w
-bounds-table-w c = omega arith
-
-pub returns-then-table-w : goal.returns-then-table-w
-returns-then-table-w c =
-    let t = c.loop-left.invariant.1 ∙ free_turn c.args.table.now c.args.first c.args.l c.loop-left.left
-    c.loop-left.i (omega arith) in (sym (t ∙ rw (eq-eqb _ _ c.if-table-w.true)), omega arith)
-
-pub overflow_sub-left : goal.overflow_sub-left
-overflow_sub-left c = omega arith
-
-pub loop-left-smaller : goal.loop-left-smaller
-loop-left-smaller c = omega arith
-
-pub loop-left-preserved : goal.loop-left-preserved
-loop-left-preserved c =
-    let t = c.loop-left.invariant.1 ∙ free_turn c.args.table.now c.args.first c.args.l c.loop-left.left
-    c.loop-left.i (omega arith) in (
-      c.next_bucket-i.ensures.1,
-      t ∙ rw (
-        ne_eqb _ _ c.if-table-w.false,
-        c.next_bucket-i.ensures.0,
-      ),
-    )
+pub loop-before-preserved : goal.loop-before-preserved
+loop-before-preserved c = (
+  c.next_bucket-i.ensures.1,
+  c.loop-before.invariant.1 ∙ free_turn c.args.table.now c.args.first c.args.l c.args.l c.loop-before.i
+      c.loop-before._before (omega arith) ∙ rw (ne_eqb _ _ c.if-address.false, c.next_bucket-i.ensures.0),
+)
 
 pub returns : goal.returns
 returns c = (
-  sym (c.loop-left.invariant.1 ∙ free_end c.args.table.now c.args.first c.args.l c.loop-left.left c.loop-left.i
-      (omega arith)),
+  sym (c.loop-before.invariant.1 ∙ free_end c.args.table.now c.args.first c.args.l c.args.l c.loop-before.i
+      c.loop-before._before (omega arith)),
   omega arith,
 )

@@ -8,13 +8,12 @@ use Rattle.store_look.proofs.lane.block_at.Goals as goal
 pub returns-in_default : goal.returns-in_default
 returns-in_default c =
     sym (block_4 c.args.st (lent c.args.table.now c.args.keys.now c.args.lists.now) c.args.index c.args.at
-    (head_lost _ _ (sym c.get_head-head.ensures ∙ c.in_default.is)))
+    (head_lost _ _ (sym c.in_default.ensures)))
 
 pub find_block-requires : goal.find_block-requires
-find_block-requires c = (c.requires.0, (head-found _ _ _ (sym c.get_head-head.ensures ∙ c.in-Sound.is)).ends)
+find_block-requires c = (c.requires.0, (head-found _ _ _ (sym c.in-Some.ensures)).ends)
 
 pub returns : goal.returns
 returns c =
     c.on_block.ensures ∙ ap on_block c.find_block.ensures ∙ sym (block_found c.args.st (lent c.args.table.now
-    c.args.keys.now c.args.lists.now) c.args.index c.args.at _ (head-found _ _ _ (sym c.get_head-head.ensures ∙
-    c.in-Sound.is)))
+    c.args.keys.now c.args.lists.now) c.args.index c.args.at _ (head-found _ _ _ (sym c.in-Some.ensures)))

@@ -9,12 +9,12 @@ use Rattle.store_look.proofs.lane.length_at.Goals as goal
 
 pub returns-in_default : goal.returns-in_default
 returns-in_default c =
-    sym (length_4 c.args.keys.now c.args.at (head_lost _ _ (sym c.get_head-head.ensures ∙ c.in_default.is)))
+    sym (length_4 c.args.keys.now c.args.at (head_lost _ _ (sym c.in_default.ensures)))
 
 pub lane_length-requires : goal.lane_length-requires
-lane_length-requires c = (head-found _ _ _ (sym c.get_head-head.ensures ∙ c.in-Sound.is)).ends
+lane_length-requires c = (head-found _ _ _ (sym c.in-Some.ensures)).ends
 
 pub returns : goal.returns
 returns c =
     ap (λ (n : ℕ). Found (Length n)) c.lane_length.ensures ∙ sym (length_found c.args.keys.now c.args.at _
-    (head-found _ _ _ (sym c.get_head-head.ensures ∙ c.in-Sound.is)))
+    (head-found _ _ _ (sym c.in-Some.ensures)))

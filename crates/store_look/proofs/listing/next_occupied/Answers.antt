@@ -11,7 +11,8 @@ use Rattle.store_look.specs.Look.{lent, on_next}
 use Rattle.store_look.specs.Said.{said_listed}
 use Rattle.store_look.specs.declared.Listed.{Listed}
 use Rattle.shared_arena_hashmap.specs.Probe.{occupied_from}
-use Rattle.shared_arena_hashmap.specs.declared.Next.{Next}
+use Rattle.std.specs.Prelude.{Option}
+use Rattle.shared_arena_hashmap.specs.declared.Occupied.{Occupied}
 use Rattle.limits.specs.Refusals.{listing_buckets, permitted}
 use Rattle.store_look.proofs.listing.next_occupied.Goals as goal
 use Rattle.store_look.proofs.listing.next_occupied.Goals.{Else-buckets-index}
@@ -56,7 +57,7 @@ on_next-requires c = (whole (goal.at.on_next-requires c).Else-buckets-index).key
 pub returns : goal.returns
 returns c =
     let m = lent c.args.table.now c.args.keys.now c.args.lists.now in
-    let e = c.on_next.ensures ∙ ap (λ (n : Next). on_next n c.args.st.key_arena c.args.keys.now)
+    let e = c.on_next.ensures ∙ ap (λ (n : Option Occupied). on_next n c.args.st.key_arena c.args.keys.now)
     (c.next_occupied-next.ensures ∙ ap (λ (f : ℕ). occupied_from c.args.table.now f (c.args.st.buckets -
     c.args.index) c.args.index) c.first_bucket-first.ensures) ∙ sym (next-on c.args.st m c.args.index (sym
     c.is_whole_state.ensures ∙ c.if-not-is_whole_state.false)) in record {
