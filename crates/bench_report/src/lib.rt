@@ -2,12 +2,12 @@
 //
 // Each reads its words, makes one call and says what it answered. It promises that it ends and stays inside what is
 // lent, whatever the line, the state and the memory are; what the call answers, report and report_read promise. It uses
-// numbers, memory_arena (the state's type), store_state, report, report_read, text and say.
+// limits, memory_arena (the state's type), store_state, report, report_read, text and say.
 #![tactic(auto)]
 
 use report::Reported;
-use report_read::check::Checked;
-use report_read::pick::Picked;
+use report_read::check::{BadLine, Lanes};
+use report_read::pick::Lane;
 use store_state::State;
 use text::{fault, words};
 
@@ -52,16 +52,18 @@ fn report(st: State, line: &[u8], table: &[u32], keys: &[u8], lists: &[u8], outp
     report_into(st, table, keys, lists, &mut output[0..m])
 }
 
-fn say_checked(c: Checked) {
-    match c {
-        Checked::Lanes(terms, total) => {
-            say::told(b"lanes ", terms);
-            say::last(total)
+fn say_bad(bad: BadLine) {
+    say_refusal(limits::Refusal::NoReport.number(), bad.line);
+    say::end()
+}
+
+fn say_checked(checked: Result<Lanes, BadLine>) {
+    match checked {
+        Ok(read) => {
+            say::told(b"lanes ", read.lanes);
+            say::last(read.bytes)
         }
-        Checked::Refused(n, told) => {
-            say_refusal(n, told);
-            say::end()
-        }
+        Err(bad) => say_bad(bad),
     }
 }
 
@@ -77,30 +79,27 @@ fn unreport(line: &[u8], name: &mut [u8]) {
 
 // A part of a text, which is hex already; `-` where it is empty.
 fn say_part(text: &[u8], from: usize, n: usize) {
-    let p = numbers::least(from, text.len());
-    let e = p + numbers::least(n, text.len() - p);
+    let p = from.min(text.len());
+    let e = p + n.min(text.len() - p);
     if n == 0 {
         return say::text(b"-");
     }
     say::text(&text[p..e])
 }
 
-fn say_lane(text: &[u8], name: usize, name_n: usize, bytes: usize, bytes_n: usize) {
+fn say_lane(text: &[u8], lane: Lane) {
     say::text(b"lane ");
-    say_part(text, name, name_n);
+    say_part(text, lane.name, lane.name_length);
     say::text(b" ");
-    say_part(text, bytes, bytes_n);
+    say_part(text, lane.bytes, lane.bytes_length);
     say::end()
 }
 
-fn say_picked(p: Picked, text: &[u8]) {
-    match p {
-        Picked::Lane(name, name_n, bytes, bytes_n) => say_lane(text, name, name_n, bytes, bytes_n),
-        Picked::NoSuchLane => say::line(b"no such lane"),
-        Picked::Unread(n, told) => {
-            say_refusal(n, told);
-            say::end()
-        }
+fn say_picked(picked: Result<Option<Lane>, BadLine>, text: &[u8]) {
+    match picked {
+        Ok(Some(lane)) => say_lane(text, lane),
+        Ok(None) => say::line(b"no such lane"),
+        Err(bad) => say_bad(bad),
     }
 }
 

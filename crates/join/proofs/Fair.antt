@@ -6,7 +6,7 @@ use mathlib.Core.List.{List, [], ◌∷◌}
 use lib.Dec.{leb, eqb}
 use lib.ListN.{length}
 use borrow.Author.Tests.{eqb-true}
-use Rattle.limits.specs.Refusals.{listing_buckets, appending, joining, refusal_numbers, is_among, permitted}
+use Rattle.limits.specs.Refusals.{appending, joining, refusal_numbers, number_of, is_among, permitted}
 use Rattle.numbers.proofs.Tests.{both}
 use Rattle.spans.specs.Span.{overwrite}
 use Rattle.records.specs.Record.{key_length, header_of}
@@ -15,14 +15,14 @@ use Rattle.store_append.specs.declared.Appended.{Appended}
 use Rattle.store_append.specs.declared.Appended.TheVariants.{Accepted, Declined}
 use Rattle.store_look.specs.declared.Listed.{Listed}
 use Rattle.store_look.specs.declared.Listed.TheVariants.{Bucket, NoMore, Stopped}
-use Rattle.store_look.specs.Said.{said_listed}
 use Rattle.store_append.specs.Said.{said_appended}
 use Rattle.store_look.specs.Look.{checked, blocks_sound, next_of}
-use Rattle.store_look.proofs.Fair.{fair-next}
 use Rattle.store_append.proofs.Fair.{fair-append}
-use Rattle.report_lanes.specs.declared.NextLane.{NextLane}
-use Rattle.report_lanes.specs.declared.NextLane.TheVariants.{Lane as MetLane, NoLane, Halt}
-use Rattle.report_lanes.specs.Measure.{met_of, on_next_lane, next_lane_of}
+use Rattle.std.specs.Prelude.{Option, Some, None, Result, Ok, Err}
+use Rattle.limits.specs.declared.Refusal.{Refusal}
+use Rattle.limits.specs.declared.Refusal.TheVariants.{NotWhole, Damaged}
+use Rattle.report_lanes.specs.declared.MetLane.{MetLane}
+use Rattle.report_lanes.specs.Measure.{met_lane, some_lane, met_of, on_next_lane, next_lane_of}
 use Rattle.history.specs.History.{World, append_in}
 use Rattle.join.specs.Join.{store, Told, lane, broken, told_on, told_from, told_by, Out, stopped, on_appended}
 use Rattle.join.specs.Join.{join_lanes, join_of}
@@ -46,20 +46,15 @@ among_wider (n ∷ ns) ms e k a =
     go true q h f a = ap (λ (x : ℕ). is_among x ms) (eqb-true k n q) ∙ h
     go false q h f a = f a
 
-listing_wider : (k : ℕ) → is_among k (refusal_numbers listing_buckets) ≡ true → is_among k (refusal_numbers joining) ≡ true
-unfolding all_among
-listing_wider k = among_wider (refusal_numbers listing_buckets) (refusal_numbers joining) refl k
-
 append_wider : (k : ℕ) → is_among k (refusal_numbers appending) ≡ true → is_among k (refusal_numbers joining) ≡ true
 unfolding all_among
 append_wider k = among_wider (refusal_numbers appending) (refusal_numbers joining) refl k
 
 -- ---- what the second store tells
 
-FairNext : NextLane → Type 0
-FairNext (MetLane i at name n) = Unit {0}
-FairNext NoLane = Unit {0}
-FairNext (Halt k) = is_among k (refusal_numbers joining) ≡ true
+FairNext : Result (Option MetLane) Refusal → Type 0
+FairNext (Ok x) = Unit {0}
+FairNext (Err k) = is_among (number_of k) (refusal_numbers joining) ≡ true
 
 FairTold : List Told → Type 0
 FairTold [] = Unit {0}
@@ -68,29 +63,33 @@ FairTold (broken n ∷ ls) = is_among n (refusal_numbers joining) ≡ true
 
 fair-met : (v : World) (i : ℕ) → FairNext (next_lane_of v.state v.memory i)
 unfolding FairNext next_lane_of met_of
-fair-met v i = go (next_of v.state v.memory i) (fair-next v.state v.memory i)
+fair-met v i = go (next_of v.state v.memory i)
   where
     sound : (j at : ℕ) (b : Bool)
-        → FairNext (cond b (MetLane j at (key_length v.memory.keys at)
-        (lane_length (header_of v.memory.keys at))) (Halt 4))
+        → FairNext (some_lane (cond b (Ok (met_lane j at (key_length v.memory.keys at)
+        (lane_length (header_of v.memory.keys at)))) (Err Damaged)))
     sound j at true = tt
     sound j at false = refl
 
-    go : (x : Listed) → permitted listing_buckets (said_listed x) ≡ true → FairNext (on_next_lane x v.state v.memory)
-    go (Bucket j at) p = sound j at (blocks_sound v.state v.memory at)
-    go NoMore p = tt
-    go (Stopped n) p = listing_wider n p
+    stop : (b : Bool) → is_among (number_of (cond b NotWhole Damaged)) (refusal_numbers joining) ≡ true
+    stop true = refl
+    stop false = refl
+
+    go : (x : Listed) → FairNext (on_next_lane x v.state v.memory)
+    go (Bucket j at) = sound j at (blocks_sound v.state v.memory at)
+    go NoMore = tt
+    go (Stopped n) = stop (eqb n 2)
 
 fair-told : (v : World) (n i : ℕ) → FairTold (told_from v n i)
 unfolding FairNext FairTold told_from
 fair-told v zero i = tt
 fair-told v (suc n) i = go (next_lane_of v.state v.memory i) (fair-met v i) (fair-told v n)
   where
-    go : (x : NextLane) → FairNext x → ((j : ℕ) → FairTold (told_from v n j))
+    go : (x : Result (Option MetLane) Refusal) → FairNext x → ((j : ℕ) → FairTold (told_from v n j))
         → FairTold (told_on x v.memory (λ j. told_from v n j))
-    go (MetLane j at name m) f ih = ih (j + 1)
-    go NoLane f ih = tt
-    go (Halt k) f ih = f
+    go (Ok (Some a)) f ih = ih (a.bucket + 1)
+    go (Ok None) f ih = tt
+    go (Err k) f ih = f
 
 -- ---- the join
 

@@ -2,10 +2,8 @@
 use Prim.Native.Nat.{ℕ, suc, ◌+◌, ◌-◌, ◌≤◌, ◌<◌}
 use mathlib.Core.Path.{◌≡◌, refl, sym, ap, ◌∙◌}
 use mathlib.Core.Bool.{true}
-use mathlib.Core.List.{List, [], ◌∷◌}
+use mathlib.Core.List.{List, ◌∷◌}
 use native.Mathlib.Omega.{arith}
-use types.Run.{OneOf, miss}
-use denote.Enum.Declared.{tag_of}
 use lib.ListN.{length, take, drop}
 use borrow.Author.Tests.{le-leb, lt-leb}
 use Rattle.limits.specs.Limits.{bucket_limit}
@@ -19,18 +17,17 @@ use Rattle.store_look.specs.Look.{Lent, checked, reading, read_at}
 use Rattle.store_append.specs.Append.{Out as AppendOut, out as Append·out, append_of}
 use Rattle.store_state.proofs.Whole.{whole_facts, buckets_few}
 use Rattle.report_text.specs.Text.{Lane}
-use Rattle.report_lanes.specs.declared.NextLane.{NextLane}
-use Rattle.report_lanes.specs.declared.NextLane.TheVariants.{Lane as MetLane, NoLane, Halt}
+use Rattle.std.specs.Prelude.{Option, Some, None, Result, Ok, Err}
+use Rattle.limits.specs.declared.Refusal.{Refusal}
+use Rattle.limits.specs.Refusals.{number_of}
+use Rattle.report_lanes.specs.declared.MetLane.{MetLane}
 use Rattle.report_lanes.specs.Lanes.{lane_at}
 use Rattle.report_lanes.specs.Measure.{next_lane_of}
-use Rattle.store_append.specs.contracts.Appended.{the_type as append_type}
-use Rattle.report_lanes.specs.contracts.NextLane.{the_type}
 use Rattle.report_lanes.proofs.Measuring.{turn}
 use Rattle.report.proofs.Written.{standing-lane, standing-read, lane_key, lane-own}
 use Rattle.history.specs.History.{World}
-use Rattle.join.specs.declared.Joined.TheVariants.{Whole}
 use Rattle.join.specs.Join.{store, lane, told_on, told_from, told_by, out, whole, stopped, on_appended, join_lanes}
-use Rattle.join.specs.Bring.{brought, bring_of, Ready, over_of, halted_of}
+use Rattle.join.specs.Bring.{brought, bring_of, Ready, halted_of}
 
 -- ---- one lane
 
@@ -58,84 +55,73 @@ bring_is w v at name n s t r o R e f =
 -- ---- a turn
 
 module _ (v : World) (left index : ℕ) (w : World) (k : ℕ) (s : List ℕ) (some : 0 < left) where
-  module _ (c : checked v.state v.memory ≡ true) (j at name n : ℕ)
-      (e : next_lane_of v.state v.memory index ≡ MetLane j at name n) where
-    told-turn : told_from v left index ≡ lane (lane_at v.memory at) ∷ told_from v (left - 1) (j + 1)
+  module _ (c : checked v.state v.memory ≡ true) (a : MetLane)
+      (e : next_lane_of v.state v.memory index ≡ Ok (Some a)) where
+    told-turn : told_from v left index ≡ lane (lane_at v.memory a.at) ∷ told_from v (left - 1) (a.bucket + 1)
     unfolding told_from
     told-turn =
         let z : left ≡ suc (left - 1) = omega arith in
-        ap (λ (l : ℕ). told_from v l index) z ∙ ap (λ (x : NextLane). told_on x v.memory
+        ap (λ (l : ℕ). told_from v l index) z ∙ ap (λ (x : Result (Option MetLane) Refusal). told_on x v.memory
         (λ i. told_from v (left - 1) i)) e
 
-    pub met-ready : n ≤ length s → Ready v at name n (length s)
+    pub met-ready : a.bytes ≤ length s → Ready v a.at a.name a.bytes (length s)
     met-ready h =
-        let T = turn v.state v.memory left index j at name n c some e in
+        let T = turn v.state v.memory left index a c some e in
         record { standing = T.standing; named = T.key_is; fits = h }
 
-    bytes_are : length (lane_at v.memory at).bytes ≡ n
-    bytes_are = (turn v.state v.memory left index j at name n c some e).bytes_is
+    bytes_are : length (lane_at v.memory a.at).bytes ≡ a.bytes
+    bytes_are = (turn v.state v.memory left index a c some e).bytes_is
 
     -- too long for the scratch
-    pub turn_short : length s < n → join_lanes (told_from v left index) w k s ≡ stopped 8 w k s
+    pub turn_short : length s < a.bytes → join_lanes (told_from v left index) w k s ≡ stopped 8 w k s
     unfolding join_lanes
-    turn_short h = rw (told-turn, lt-leb (length (lane_at v.memory at).bytes) (length s) (omega (arith, bytes_are)))
+    turn_short h = rw (told-turn, lt-leb (length (lane_at v.memory a.at).bytes) (length s) (omega (arith, bytes_are)))
 
     -- appended
-    module _ (h : n ≤ length s) (r : Appended) (m : Lent) (t : List ℕ)
-        (b : brought (Append·out r m) t ≡ bring_of w (lane_at v.memory at) s) where
+    module _ (h : a.bytes ≤ length s) (r : Appended) (m : Lent) (t : List ℕ)
+        (b : brought (Append·out r m) t ≡ bring_of w (lane_at v.memory a.at) s) where
       turn_on : join_lanes (told_from v left index) w k s
-          ≡ on_appended r m k t (λ next. join_lanes (told_from v (left - 1) (j + 1)) next (k + 1) t)
+          ≡ on_appended r m k t (λ next. join_lanes (told_from v (left - 1) (a.bucket + 1)) next (k + 1) t)
       unfolding join_lanes bring_of
       turn_on =
-          rw (told-turn, le-leb (length (lane_at v.memory at).bytes) (length s) (omega (arith, bytes_are)))
+          rw (told-turn, le-leb (length (lane_at v.memory a.at).bytes) (length s) (omega (arith, bytes_are)))
           (λ i. on_appended (sym b i).outcome.answer (sym b i).outcome.memory k (sym b i).scratch
-          (λ next. join_lanes (told_from v (left - 1) (j + 1)) next (k + 1) (sym b i).scratch))
+          (λ next. join_lanes (told_from v (left - 1) (a.bucket + 1)) next (k + 1) (sym b i).scratch))
 
       pub turn_accepted : (st : State) → r ≡ Accepted st → join_lanes (told_from v left index) w k s
-          ≡ join_lanes (told_from v (left - 1) (j + 1)) (store st m) (k + 1) t
+          ≡ join_lanes (told_from v (left - 1) (a.bucket + 1)) (store st m) (k + 1) t
       turn_accepted st q =
           turn_on ∙ ap (λ (r : Appended). on_appended r m k t
-          (λ next. join_lanes (told_from v (left - 1) (j + 1)) next (k + 1) t)) q
+          (λ next. join_lanes (told_from v (left - 1) (a.bucket + 1)) next (k + 1) t)) q
 
-      pub turn-declined : OneOf (1 ∷ []) (tag_of append_type r) → join_lanes (told_from v left index) w k s
+      pub turn-declined : (st : State) (j : ℕ) → r ≡ Declined st j → join_lanes (told_from v left index) w k s
           ≡ out (halted_of r k) m t
-      turn-declined q = turn_on ∙ go r q
-        where
-          go : (r : Appended) → OneOf (1 ∷ []) (tag_of append_type r)
-              → on_appended r m k t (λ next. join_lanes (told_from v (left - 1) (j + 1)) next (k + 1) t)
-              ≡ out (halted_of r k) m t
-          go (Accepted st) q = absurd (miss (1 ∷ []) 0 tt q)
-          go (Declined st n) q = refl
+      turn-declined st j q =
+          turn_on ∙ ap (λ (r : Appended). on_appended r m k t
+          (λ next. join_lanes (told_from v (left - 1) (a.bucket + 1)) next (k + 1) t)) q
+          ∙ sym (ap (λ (r : Appended). out (halted_of r k) m t) q)
 
-  -- no lane follows
-  pub turn_over : (x : NextLane) → next_lane_of v.state v.memory index ≡ x → OneOf (1 ∷ 2 ∷ []) (tag_of the_type x)
-      → join_lanes (told_from v left index) w k s ≡ out (over_of x w.state k) w.memory s
+  -- no lane follows, or damage
+  pub turn_over : next_lane_of v.state v.memory index ≡ Ok None → join_lanes (told_from v left index) w k s ≡ whole w k s
   unfolding told_from join_lanes
-  turn_over x e o =
+  turn_over e =
       let z : left ≡ suc (left - 1) = omega arith in
       ap (λ (l : ℕ). join_lanes (told_from v l index) w k s) z
-      ∙ ap (λ (x : NextLane). join_lanes (told_on x v.memory (λ i. told_from v (left - 1) i)) w k s) e ∙ go x o
-    where
-      go : (x : NextLane) → OneOf (1 ∷ 2 ∷ []) (tag_of the_type x)
-          → join_lanes (told_on x v.memory (λ i. told_from v (left - 1) i)) w k s
-          ≡ out (over_of x w.state k) w.memory s
-      go (MetLane i at name n) o = absurd (miss (1 ∷ 2 ∷ []) 0 tt o)
-      go NoLane o = refl
-      go (Halt n) o = refl
+      ∙ ap (λ (x : Result (Option MetLane) Refusal). join_lanes (told_on x v.memory (λ i. told_from v (left - 1) i)) w k s) e
+
+  pub turn_broken : (r : Refusal) → next_lane_of v.state v.memory index ≡ Err r
+      → join_lanes (told_from v left index) w k s ≡ stopped (number_of r) w k s
+  unfolding told_from join_lanes
+  turn_broken r e =
+      let z : left ≡ suc (left - 1) = omega arith in
+      ap (λ (l : ℕ). join_lanes (told_from v l index) w k s) z
+      ∙ ap (λ (x : Result (Option MetLane) Refusal). join_lanes (told_on x v.memory (λ i. told_from v (left - 1) i)) w k s) e
 
 -- none is left
 pub turns_end : (v : World) (left index : ℕ) (w : World) (k : ℕ) (s : List ℕ) → left ≡ 0
     → join_lanes (told_from v left index) w k s ≡ whole w k s
 unfolding told_from join_lanes
 turns_end v left index w k s z = ap (λ (l : ℕ). join_lanes (told_from v l index) w k s) z
-
--- ---- answers taken apart
-
-pub over_whole : (x : NextLane) (st : State) (k : ℕ) → OneOf (0 ∷ 1 ∷ []) (tag_of the_type x) → Whole st k
-    ≡ over_of x st k
-over_whole (MetLane i at name n) st k o = refl
-over_whole NoLane st k o = refl
-over_whole (Halt n) st k o = absurd (miss (0 ∷ 1 ∷ []) 2 tt o)
 
 -- ---- the loop: what is left to join makes of the stores as they are now what all of it makes of them as they were
 

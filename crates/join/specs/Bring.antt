@@ -6,11 +6,8 @@ use Rattle.store_append.specs.declared.Appended.{Appended}
 use Rattle.store_append.specs.declared.Appended.TheVariants.{Accepted, Declined}
 use Rattle.store_append.specs.Append.{Out as AppendOut, append_of}
 use Rattle.report_text.specs.Text.{Lane}
-use Rattle.report_lanes.specs.declared.NextLane.{NextLane}
-use Rattle.report_lanes.specs.declared.NextLane.TheVariants.{Lane as MetLane, NoLane, Halt}
 use Rattle.report_lanes.specs.Measure.{Standing}
 use Rattle.history.specs.History.{World, append_in}
-use Rattle.store_state.specs.declared.State.{State}
 use Rattle.join.specs.declared.Joined.{Joined}
 use Rattle.join.specs.declared.Joined.TheVariants.{Whole, Halted}
 
@@ -33,12 +30,7 @@ pub record Ready (v : World) (at name n room : ℕ) : Type 0 where
   pub named : key_length v.memory.keys at ≡ name
   pub fits : n ≤ room
 
--- the answer where no lane follows, and where a lane's append was refused
-abbrev pub over_of : NextLane → State → ℕ → Joined
-over_of (MetLane i at name n) st k = Whole st k
-over_of NoLane st k = Whole st k
-over_of (Halt n) st k = Halted st n k
-
+-- the answer where a lane's append was refused
 abbrev pub halted_of : Appended → ℕ → Joined
 halted_of (Accepted st) k = Whole st k
 halted_of (Declined st n) k = Halted st n k

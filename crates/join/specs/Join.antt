@@ -3,6 +3,9 @@
 -- across whole; those stay, from the refused lane on nothing more changes in the first store, and the second store is
 -- unchanged throughout."
 use Rattle.std.specs.Prelude.{ℕ, zero, suc, ◌+◌, cond, ◌&&◌, List, [], ◌∷◌, leb, length, take}
+use Rattle.std.specs.Prelude.{Option, Some, None, Result, Ok, Err}
+use Rattle.limits.specs.declared.Refusal.{Refusal}
+use Rattle.limits.specs.Refusals.{number_of}
 use Rattle.spans.specs.Span.{overwrite}
 use Rattle.store_state.specs.declared.State.{State}
 use Rattle.store_append.specs.declared.Appended.{Appended}
@@ -12,8 +15,7 @@ use Rattle.store_look.specs.Look.{Lent, checked}
 use Rattle.store_append.specs.Append.{append_of}
 use Rattle.report_text.specs.Text.{Lane}
 use Rattle.report_lanes.specs.Lanes.{lane_at}
-use Rattle.report_lanes.specs.declared.NextLane.{NextLane}
-use Rattle.report_lanes.specs.declared.NextLane.TheVariants.{Lane as MetLane, NoLane, Halt}
+use Rattle.report_lanes.specs.declared.MetLane.{MetLane}
 use Rattle.report_lanes.specs.Measure.{next_lane_of}
 use Rattle.history.specs.History.{World, Call, appends, append_in}
 use Rattle.join.specs.declared.Joined.{Joined}
@@ -31,10 +33,10 @@ pub data Told : Type 0 where
   broken : ℕ → Told
 
 -- RULES AI2. What a question for the next lane brings.
-abbrev pub told_on : NextLane → Lent → (ℕ → List Told) → List Told
-told_on (MetLane i at name n) m rest = lane (lane_at m at) ∷ rest (i + 1)
-told_on NoLane m rest = []
-told_on (Halt k) m rest = broken k ∷ []
+abbrev pub told_on : Result (Option MetLane) Refusal → Lent → (ℕ → List Told) → List Told
+told_on (Ok (Some a)) m rest = lane (lane_at m a.at) ∷ rest (a.bucket + 1)
+told_on (Ok None) m rest = []
+told_on (Err k) m rest = broken (number_of k) ∷ []
 
 -- RULES AI2. By at most n questions, the first of them from bucket i: the lanes in listing order, each through its own
 -- record. The first damage ends it.

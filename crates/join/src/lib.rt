@@ -13,10 +13,9 @@ ghost use Rattle.store_look.specs.Look.{lent, checked};
 ghost use Rattle.store_append.specs.Append.{out as Append·out};
 ghost use Rattle.report_lanes.specs.Lanes.{lane_at};
 ghost use Rattle.join.specs.Join.{store, out, join_lanes, told_by, join_of};
-ghost use Rattle.join.specs.Bring.{brought, bring_of, Ready, over_of, halted_of};
+ghost use Rattle.join.specs.Bring.{brought, bring_of, Ready, halted_of};
 ghost use Rattle.join.specs.Said.{said_joined};
 
-use report_lanes::NextLane;
 use store_append::Appended;
 use store_state::State;
 
@@ -56,16 +55,6 @@ fn bring(
     answer
 }
 
-// The answer where no lane follows.
-fn over(next: NextLane, st: State, lanes: usize) -> Joined
-    ensures { result ≡ over_of next st lanes }
-{
-    let NextLane::Halt(n) = next else {
-        return Joined::Whole(st, lanes);
-    };
-    Joined::Halted(st, n, lanes)
-}
-
 // The answer where a lane's append was refused.
 fn halted(a: Appended, lanes: usize) -> Joined
     ensures { result ≡ halted_of a lanes }
@@ -98,11 +87,12 @@ fn join_lanes(
     let mut index = 0;
     let mut lanes = 0;
     while 0 < left {
-        let next = report_lanes::next_lane(st2, table2, keys2, lists2, index);
-        let NextLane::Lane(i, at, name, n) = next else {
-            return over(next, state, lanes);
+        let next = match report_lanes::next_lane(st2, table2, keys2, lists2, index) {
+            Ok(Some(lane)) => lane,
+            Ok(None) => return Joined::Whole(state, lanes),
+            Err(refusal) => return Joined::Halted(state, refusal.number(), lanes),
         };
-        if (scratch.len() as u64) < n {
+        if (scratch.len() as u64) < next.bytes {
             return Joined::Halted(state, 8, lanes);
         }
         let a = bring(
@@ -114,16 +104,16 @@ fn join_lanes(
             table2,
             keys2,
             lists2,
-            at,
-            name as usize,
-            n as usize,
+            next.at,
+            next.name as usize,
+            next.bytes as usize,
             scratch,
         );
         let Appended::Accepted(s) = a else {
             return halted(a, lanes);
         };
         state = s;
-        index = i + 1;
+        index = next.bucket + 1;
         left -= 1;
         lanes += 1;
     }

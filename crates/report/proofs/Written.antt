@@ -1,5 +1,5 @@
 -- Laws of the writer's second pass. Assumes nothing.
-use Prim.Native.Nat.{ℕ, zero, suc, ◌+◌, ◌-◌, ◌≤◌, ◌<◌}
+use Prim.Native.Nat.{ℕ, zero, suc, ◌+◌, ◌-◌, ◌*◌, ◌≤◌, ◌<◌}
 use mathlib.Core.Path.{◌≡◌, refl, sym, ap, ◌∙◌}
 use mathlib.Core.Bool.{true}
 use mathlib.Core.List.{List, [], ◌∷◌, ◌++◌, append_assoc, append-nil}
@@ -23,7 +23,9 @@ use Rattle.records.proofs.Laws.{head-found, head-sound}
 use Rattle.report_text.specs.Text.{Lane as TextLane, newline, store_line, terms_word, total_word, head_text, term_word}
 use Rattle.report_text.specs.Text.{len_word, bytes_word, hex, decimal, line, lane_text, lanes_text}
 use Rattle.report_text.proofs.Values.{hex-length}
-use Rattle.report_lanes.specs.declared.NextLane.TheVariants.{Lane}
+use Rattle.report_put.proofs.Laws.{line-long}
+use Rattle.std.specs.Prelude.{Ok, Some}
+use Rattle.report_lanes.specs.declared.MetLane.{MetLane}
 use Rattle.report_lanes.specs.Lanes.{Gathered, gathered, halted, lane_before, lane_at, gather_from, gather_all}
 use Rattle.report_lanes.specs.Measure.{next_lane_of, lane_size, Standing}
 use Rattle.report.specs.Write.{lanes_met}
@@ -126,10 +128,10 @@ lane-lines a k bs n e f g =
 
 -- ---- its name and its bytes
 
-pub standing_key : (st : State) (m : Lent) (at n : ℕ) → Standing st m at n → (name : ℕ) → key_length m.keys at ≡ name
+pub standing_key : {st : State} {m : Lent} {at n name : ℕ} → Standing st m at n → key_length m.keys at ≡ name
     → at + 2 + name ≤ length m.keys
 unfolding value_place
-standing_key st m at n S name e = omega (arith, S.value_in)
+standing_key S e = omega (arith, S.value_in)
 
 pub lane_key : (m : Lent) (at name : ℕ) → key_length m.keys at ≡ name
     → take (at + 2 + name - (at + 2)) (drop (at + 2) m.keys) ≡ (lane_at m at).name
@@ -141,6 +143,13 @@ lane_key m at name e = let z : at + 2 + name - (at + 2) ≡ key_length m.keys at
 pub key_size : (keys : List ℕ) (at name : ℕ) → at + 2 + name ≤ length keys
     → length (take (at + 2 + name - (at + 2)) (drop (at + 2) keys)) ≡ name
 key_size keys at name h = simp (length-take, length-drop) (omega arith)
+
+-- how long its line is
+pub name_line : {st : State} {m : Lent} {at n name : ℕ} → Standing st m at n → key_length m.keys at ≡ name
+    → length (line term_word (hex (take (at + 2 + name - (at + 2)) (drop (at + 2) m.keys)))) ≡ 6 + 2 * name
+name_line {m = m} {at = at} {name = name} S e =
+    let k = take (at + 2 + name - (at + 2)) (drop (at + 2) m.keys) in
+    omega (arith, line-long term_word (hex k), hex-length k, key_size m.keys at name (standing_key S e))
 
 pub lane-own : (m : Lent) (at : ℕ) → lane_bytes m.lists (header_of m.keys at) ≡ (lane_at m at).bytes
 unfolding lane_at
@@ -201,53 +210,53 @@ lanes-length {from =
 
 module _ {st : State} {m : Lent} {from : ℕ} {before : List ℕ} {left index p : ℕ} {o : List ℕ}
     (L : Lanes st m from before left index p o) (c : checked st m ≡ true) (l : 0 < left)
-    (j at name n : ℕ) (e : next_lane_of st m index ≡ Lane j at name n) where
-  T : Turn st m left index j at name n
-  T = turn st m left index j at name n c l e
+    (a : MetLane) (e : next_lane_of st m index ≡ Ok (Some a)) where
+  T : Turn st m left index a
+  T = turn st m left index a c l e
 
-  tail : (g : Gathered) → gather_from st m (left - 1) (j + 1) ≡ g → lane_before (lane_at m at) g ≡ gathered L.rest
-      → (ks : List TextLane) × (gather_from st m (left - 1) (j + 1) ≡ gathered ks) × (L.rest ≡ lane_at m at ∷ ks)
+  tail : (g : Gathered) → gather_from st m (left - 1) (a.bucket + 1) ≡ g → lane_before (lane_at m a.at) g ≡ gathered L.rest
+      → (ks : List TextLane) × (gather_from st m (left - 1) (a.bucket + 1) ≡ gathered ks) × (L.rest ≡ lane_at m a.at ∷ ks)
   tail (gathered ks) p q = (ks, p, cc)
   tail (halted k) p q = let z : ◌≡◌ {A = ℕ} 0 1 = cc in absurd (omega arith)
 
-  next_ones : (ks : List TextLane) × (gather_from st m (left - 1) (j + 1) ≡ gathered ks) × (L.rest ≡ lane_at m at ∷ ks)
-  next_ones = tail (gather_from st m (left - 1) (j + 1)) refl (sym T.rest ∙ L.rest_is)
+  next_ones : (ks : List TextLane) × (gather_from st m (left - 1) (a.bucket + 1) ≡ gathered ks) × (L.rest ≡ lane_at m a.at ∷ ks)
+  next_ones = tail (gather_from st m (left - 1) (a.bucket + 1)) refl (sym T.rest ∙ L.rest_is)
 
-  pub lane-stands : Standing st m at n × (key_length m.keys at ≡ name)
+  pub lane-stands : Standing st m a.at a.bytes × (key_length m.keys a.at ≡ a.name)
   lane-stands = (T.standing, T.key_is)
 
-  size_is : length (lane_text (lane_at m at)) ≡ lane_size name n
-  size_is = lane-long (lane_at m at) ∙ (λ i. lane_size (T.name_is i) (T.bytes_is i))
+  size_is : length (lane_text (lane_at m a.at)) ≡ lane_size a.name a.bytes
+  size_is = lane-long (lane_at m a.at) ∙ (λ i. lane_size (T.name_is i) (T.bytes_is i))
 
-  pub lane_room : p + lane_size name n ≤ from + length (lanes_text (lanes_met st m))
+  pub lane_room : p + lane_size a.name a.bytes ≤ from + length (lanes_text (lanes_met st m))
   lane_room =
       omega (
         arith,
         L.place,
         ap (λ (ls : List TextLane). length (lanes_text ls)) L.all_are ∙ lanes_join L.done L.rest,
-        ap (λ (ls : List TextLane). length (lanes_text ls)) next_ones.2 ∙ lanes_cons (lane_at m at) next_ones.0,
+        ap (λ (ls : List TextLane). length (lanes_text ls)) next_ones.2 ∙ lanes_cons (lane_at m a.at) next_ones.0,
         size_is,
       )
 
-  pub lanes_on : (o' : List ℕ) (q : ℕ) → o' ≡ overwrite p (lane_text (lane_at m at)) o → q ≡ p + lane_size name n
-      → Lanes st m from before (left - 1) (j + 1) q o'
-  lanes_on o' q f g = record {
-    done = L.done ++ (lane_at m at ∷ []);
+  pub lanes_on : (o' : List ℕ) (q : ℕ) → o' ≡ overwrite p (lane_text (lane_at m a.at)) o → q ≡ p + lane_size a.name a.bytes
+      → (rest : ℕ) → rest ≡ left - 1 → Lanes st m from before rest (a.bucket + 1) q o'
+  lanes_on o' q f g rest h = record {
+    done = L.done ++ (lane_at m a.at ∷ []);
     rest = next_ones.0;
     all_are = L.all_are ∙ ap (λ (ks : List TextLane). L.done ++ ks) next_ones.2
-        ∙ sym (append_assoc L.done (lane_at m at ∷ []) next_ones.0);
-    rest_is = next_ones.1;
+        ∙ sym (append_assoc L.done (lane_at m a.at ∷ []) next_ones.0);
+    rest_is = ap (λ (k : ℕ). gather_from st m k (a.bucket + 1)) h ∙ next_ones.1;
     place = omega (
       arith,
       L.place,
-      ap length (lanes_end L.done (lane_at m at))
-          ∙ length-append (lanes_text L.done) (lane_text (lane_at m at)),
+      ap length (lanes_end L.done (lane_at m a.at))
+          ∙ length-append (lanes_text L.done) (lane_text (lane_at m a.at)),
       size_is,
     );
     output =
-        f ∙ (λ i. overwrite (L.place i) (lane_text (lane_at m at)) (L.output i))
-        ∙ sym (overwrite-append from (lanes_text L.done) (lane_text (lane_at m at)) before)
-        ∙ ap (λ (t : List ℕ). overwrite from t before) (sym (lanes_end L.done (lane_at m at)));
+        f ∙ (λ i. overwrite (L.place i) (lane_text (lane_at m a.at)) (L.output i))
+        ∙ sym (overwrite-append from (lanes_text L.done) (lane_text (lane_at m a.at)) before)
+        ∙ ap (λ (t : List ℕ). overwrite from t before) (sym (lanes_end L.done (lane_at m a.at)));
   }
 
 pub lanes_over : {st : State} {m : Lent} {from : ℕ} {before : List ℕ} {left index p : ℕ} {o : List ℕ}

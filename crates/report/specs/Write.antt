@@ -3,11 +3,7 @@ use Rattle.std.specs.Prelude.{ℕ, ◌+◌, ◌≤◌, ◌≡◌, true, List, []
 use Rattle.store_state.specs.declared.State.{State}
 use Rattle.store_look.specs.Look.{Lent, checked}
 use Rattle.report_text.specs.Text.{Lane, lanes_text}
-use Rattle.report_lanes.specs.declared.Measured.{Measured}
-use Rattle.report_lanes.specs.declared.Measured.TheVariants.{Sums, Halted}
 use Rattle.report_lanes.specs.Lanes.{Gathered, gathered, halted, gather_all}
-use Rattle.report.specs.declared.Reported.{Reported}
-use Rattle.report.specs.declared.Reported.TheVariants.{Refused}
 
 -- the lanes that were met
 abbrev pub lanes_of : Gathered → List Lane
@@ -23,8 +19,3 @@ pub record Room (st : State) (m : Lent) (from size : ℕ) : Type 0 where
   pub whole : checked st m ≡ true
   pub met : gather_all st m ≡ gathered (lanes_met st m)
   pub fits : from + length (lanes_text (lanes_met st m)) ≤ size
-
--- the answer where no lanes could be met
-abbrev pub halted_of : Measured → Reported
-halted_of (Sums a b c) = Refused 4 0
-halted_of (Halted n) = Refused n 0

@@ -16,17 +16,27 @@ ghost use Rattle.report_text.specs.Text.{decimal, hex, lane_text, lanes_text, he
 ghost use Rattle.report_lanes.specs.Lanes.{lane_at};
 ghost use Rattle.report_lanes.specs.Measure.{lane_size, Standing};
 ghost use Rattle.report.specs.Report.{out, report_of};
-ghost use Rattle.report.specs.Write.{lanes_met, Room, halted_of};
+ghost use Rattle.report.specs.Write.{lanes_met, Room};
 ghost use Rattle.report.specs.Said.{said_reported};
+ghost use Rattle.report.specs.declared.Unwritten.TheVariants.{Refused};
 
-use report_lanes::{Measured, NextLane};
+use limits::Refusal;
+use report_lanes::MetLane;
 use store_state::State;
 
-// The report's bytes, or a refusal's number and what it tells.
-#[derive(Clone, Copy)]
-pub enum Reported {
-    Written(u64),
-    Refused(u32, u64),
+// Why no report is written: the state or a lane, or an output that is too short, with the bytes needed.
+#[derive(Clone, Copy, Debug, PartialEq, Eq)]
+pub enum Unwritten {
+    Refused(Refusal),
+    TooShort(u64),
+}
+
+impl From<Refusal> for Unwritten {
+    ghost from_gives = { λ refusal e. e ≡ Refused refusal };
+
+    fn from(refusal: Refusal) -> Unwritten {
+        Unwritten::Refused(refusal)
+    }
 }
 
 // A lane's bytes as hex: they are read to the second half of their room, and spread over all of it.
@@ -56,27 +66,26 @@ fn write_lane(
     table: &[u32],
     keys: &[u8],
     lists: &[u8],
-    at: u32,
-    name: usize,
-    n: usize,
+    lane: MetLane,
     output: &mut [u8],
     p: usize,
 ) -> usize
-    requires { Standing st (lent table.now keys.now lists.now) at n × ((key_length keys.now at ≡ name)
-        × ((n ≤ 4587094008) × (p + lane_size name n ≤ length output.old))) }
+    requires { Standing st (lent table.now keys.now lists.now) lane.at lane.bytes × ((key_length keys.now lane.at
+        ≡ lane.name) × ((lane.bytes ≤ 4587094008) × (p + lane_size lane.name lane.bytes ≤ length output.old))) }
     ensures { (output.new
-        ≡ overwrite p (lane_text (lane_at (lent table.now keys.now lists.now) at))
-        output.old) × (result ≡ p + lane_size name n) }
+        ≡ overwrite p (lane_text (lane_at (lent table.now keys.now lists.now) lane.at))
+        output.old) × (result ≡ p + lane_size lane.name lane.bytes) }
 {
-    let from = (at as usize) + 2;
-    let to = from + name;
+    let n = lane.bytes as usize;
+    let from = lane.at as usize + 2;
+    let to = from + lane.name as usize;
     let a = report_put::put_hex_line(output, p, b"term=", &keys[from..to]);
-    let b = report_put::put_number_line(output, a, b"len=", n as u64);
+    let b = report_put::put_number_line(output, a, b"len=", lane.bytes);
     fastcpy::copy_in(output, b, b"bytes=");
     let d = b + 6;
-    write_bytes(st, table, keys, lists, at, n, output, d);
+    write_bytes(st, table, keys, lists, lane.at, n, output, d);
     let e = d + 2 * n;
-    output[e] = 10;
+    output[e] = b'\n';
     e + 1
 }
 
@@ -95,27 +104,17 @@ fn write_lanes(
         output.old) × (result ≡ from + length
         (lanes_text (lanes_met st (lent table.now keys.now lists.now)))) }
 {
-    let mut left = st.buckets;
     let mut index = 0;
     let mut p = from;
-    while 0 < left {
-        let r = report_lanes::next_lane(st, table, keys, lists, index);
-        let NextLane::Lane(i, at, name, n) = r else {
-            return p;
-        };
-        p = write_lane(
-            st,
-            table,
-            keys,
-            lists,
-            at,
-            name as usize,
-            n as usize,
-            output,
-            p,
-        );
-        index = i + 1;
-        left -= 1;
+    for _ in 0..st.buckets {
+        match report_lanes::next_lane(st, table, keys, lists, index) {
+            Ok(Some(lane)) => {
+                p = write_lane(st, table, keys, lists, lane, output, p);
+                index = lane.bucket + 1;
+            }
+            Ok(None) => return p,
+            Err(_) => return p,
+        }
     }
     p
 }
@@ -131,38 +130,31 @@ fn write_head(output: &mut [u8], lanes: u64, bytes: u64) -> usize
     report_put::put_number_line(output, a, b"total=", bytes)
 }
 
-// The answer where a lane is damaged.
-fn halted(m: Measured) -> Reported
-    ensures { result ≡ halted_of m }
-{
-    let Measured::Halted(n) = m else {
-        return Reported::Refused(4, 0);
-    };
-    Reported::Refused(n, 0)
-}
-
 // Writes the report to the output's front. All lanes are met before the output's length matters, and that before a byte
 // is written.
-pub fn report(st: State, table: &[u32], keys: &[u8], lists: &[u8], output: &mut [u8]) -> Reported
+pub fn report(
+    st: State,
+    table: &[u32],
+    keys: &[u8],
+    lists: &[u8],
+    output: &mut [u8],
+) -> Result<u64, Unwritten>
     ensures settled { out result output.new
         ≡ report_of st (lent table.now keys.now lists.now) output.old }
     ensures numbered { permitted reporting (said_reported result) ≡ true }
 {
     if !store_state::is_whole_state(st, table.len(), keys.len(), lists.len()) {
-        return Reported::Refused(2, 0);
+        return Err(Unwritten::Refused(Refusal::NotWhole));
     }
-    let m = report_lanes::measure(st, table, keys, lists);
-    let Measured::Sums(lanes, bytes, text) = m else {
-        return halted(m);
-    };
-    let k = report_put::digit_count(lanes) as u64;
-    let j = report_put::digit_count(bytes) as u64;
-    let n = 28 + k + j + text;
+    let sums = report_lanes::measure(st, table, keys, lists)?;
+    let k = report_put::digit_count(sums.lanes) as u64;
+    let j = report_put::digit_count(sums.bytes) as u64;
+    let n = 28 + k + j + sums.text;
     if (output.len() as u64) < n {
-        return Reported::Refused(8, n);
+        return Err(Unwritten::TooShort(n));
     }
-    let p = write_head(output, lanes, bytes);
+    let p = write_head(output, sums.lanes, sums.bytes);
     let q = write_lanes(st, table, keys, lists, output, p);
     fastcpy::copy_in(output, q, b"end=1\n");
-    Reported::Written(n)
+    Ok(n)
 }

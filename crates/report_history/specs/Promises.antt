@@ -9,8 +9,7 @@ use Rattle.history.specs.History.{World, Call, play, joined}
 use Rattle.history.specs.Promises.{listed_names}
 use Rattle.report_text.specs.Text.{Lane, total_of, report_text}
 use Rattle.report_text.specs.Reader.{lanes, text_read}
-use Rattle.report_read.specs.declared.check.Checked.TheVariants.{Lanes}
-use Rattle.report_read.specs.Counted.{checked_of}
+use Rattle.report_read.specs.Counted.{lanes_counted, checked_of}
 use Rattle.report.specs.declared.Reported.TheVariants.{Written, Refused}
 use Rattle.report.specs.Report.{out, report_of}
 
@@ -36,4 +35,4 @@ pub record ReportsBack (w : World) (calls : List Call) (ls : List Lane) : Type 0
       → text_read (read_span 0 (length (report_text ls))
       (report_of (play calls w).state (play calls w).memory output).output) ≡ lanes ls
   pub checks : Bytes (play calls w).memory.keys → Bytes (play calls w).memory.lists
-      → checked_of (text_read (report_text ls)) ≡ Lanes (length ls) (total_of ls)
+      → checked_of (text_read (report_text ls)) ≡ lanes_counted (length ls) (total_of ls)

@@ -1,11 +1,9 @@
 -- Laws of the writer's first pass. Assumes nothing.
 use Prim.Native.Nat.{ℕ, zero, suc, ◌+◌, ◌-◌, ◌*◌, ◌/◌, ◌%◌, ◌≤◌, ◌<◌}
-use mathlib.Core.Path.{◌≡◌, refl, sym, ap, ◌∙◌}
+use mathlib.Core.Path.{◌≡◌, refl, sym, ap, ◌∙◌, subst}
 use mathlib.Core.Bool.{Bool, true, false, cond, ◌&&◌}
 use mathlib.Core.List.{List, [], ◌∷◌, ◌++◌}
 use native.Mathlib.Omega.{arith}
-use types.Run.{OneOf, miss}
-use denote.Enum.Declared.{tag_of}
 use lib.Dec.{leb, ltb}
 use lib.ListN.{length, length-append}
 use Rattle.limits.specs.Limits.{record_extra, bucket_limit}
@@ -34,45 +32,57 @@ use Rattle.store_look.proofs.Found.{next-on}
 use Rattle.store_state.proofs.Whole.{whole_facts, buckets_few}
 use Rattle.report_text.specs.Text.{Lane as TextLane, digits, decimal, total_of, lane_text, lanes_text}
 use Rattle.report_text.proofs.Values.{hex-length}
-use Rattle.report_lanes.specs.contracts.NextLane.{the_type}
-use Rattle.report_lanes.specs.declared.NextLane.{NextLane}
-use Rattle.report_lanes.specs.declared.NextLane.TheVariants.{Lane, NoLane, Halt}
-use Rattle.report_lanes.specs.declared.Measured.{Measured}
-use Rattle.report_lanes.specs.declared.Measured.TheVariants.{Sums, Halted}
+use Rattle.std.specs.Prelude.{Some, None, Result, Ok, Err}
+use Rattle.limits.specs.declared.Refusal.{Refusal}
+use Rattle.limits.specs.declared.Refusal.TheVariants.{Damaged}
+use Rattle.report_lanes.specs.declared.MetLane.{MetLane}
+use Rattle.report_lanes.specs.declared.Sums.{Sums}
 use Rattle.report_lanes.specs.Lanes.{Gathered, gathered, halted, lane_before, lane_at, on_listed, gather_from}
-use Rattle.report_lanes.specs.Lanes.{gather_all}
-use Rattle.report_lanes.specs.Measure.{Standing, on_answer, met_of, on_next_lane, next_lane_of, lane_size, measured_of}
-use Rattle.report_lanes.specs.Measure.{over_of, Small, Few}
+use Rattle.report_lanes.specs.Lanes.{gather_all, stopped_by}
+use Rattle.report_lanes.specs.Measure.{Standing, on_answer, met_lane, met_of, some_lane, on_next_lane, next_lane_of, lane_size}
+use Rattle.report_lanes.specs.Measure.{sums, measured_of, SmallLane, Few}
 
 -- ---- the record at a place
 
+-- what is made of the length that was told
+abbrev met_with : ℕ → ℕ → ℕ → Result ℕ Refusal → Result MetLane Refusal
+met_with i at name (Ok n) = Ok (met_lane i at name n)
+met_with i at name (Err k) = Err k
+
 module _ (st : State) (m : Lent) (i at : ℕ) where
   -- what a reading into no output tells is whether the lane is sound, and its length
-  pub met_is : (r : Answer) (o : List ℕ) → reading r o ≡ read_at st m at [] → on_answer r i at (key_length m.keys at)
-      ≡ met_of st m i at
+  met_is : (r : Answer) (o : List ℕ) → reading r o ≡ read_at st m at []
+      → met_with i at (key_length m.keys at) (on_answer r) ≡ met_of st m i at
   unfolding met_of read_at
   met_is r o e =
-      ap (λ (x : Read). on_answer x.answer i at (key_length m.keys at)) e
+      ap (λ (x : Read). met_with i at (key_length m.keys at) (on_answer x.answer)) e
       ∙ go (blocks_sound st m at) (leb (lane_length (header_of m.keys at)) 0)
     where
       go : (b t : Bool)
-          → on_answer (cond b (cond t (reading (Found (Reading (lane_length (header_of m.keys at))))
+          → met_with i at (key_length m.keys at)
+          (on_answer (cond b (cond t (reading (Found (Reading (lane_length (header_of m.keys at))))
           (overwrite 0 (lane_bytes m.lists (header_of m.keys at)) []))
-          (reading (Refused 8 (lane_length (header_of m.keys at))) [])) (reading (Refused 4 0) [])).answer i at
-          (key_length m.keys at)
-          ≡ cond b (Lane i at (key_length m.keys at) (lane_length (header_of m.keys at))) (Halt 4)
+          (reading (Refused 8 (lane_length (header_of m.keys at))) [])) (reading (Refused 4 0) [])).answer)
+          ≡ cond b (Ok (met_lane i at (key_length m.keys at) (lane_length (header_of m.keys at)))) (Err Damaged)
       go true true = refl
       go true false = refl
       go false t = refl
 
-  pub met-small : i < st.buckets → key_length m.keys at < 65536 → Small st.buckets (met_of st m i at)
+  module _ (r : Answer) (o : List ℕ) (e : reading r o ≡ read_at st m at []) where
+    pub met_good : (n : ℕ) → Ok n ≡ on_answer r → Ok (met_lane i at (key_length m.keys at) n) ≡ met_of st m i at
+    met_good n p = ap (met_with i at (key_length m.keys at)) p ∙ met_is r o e
+
+    pub met_bad : (k : Refusal) → Err k ≡ on_answer r → Err k ≡ met_of st m i at
+    met_bad k p = ap (met_with i at (key_length m.keys at)) p ∙ met_is r o e
+
+  pub met-small : i < st.buckets → key_length m.keys at < 65536 → SmallLane st.buckets (met_of st m i at)
   unfolding met_of blocks_sound
   met-small h k = go (header_sound m.keys at) refl
       (good_blocks st.list_arena m.lists (header_of m.keys at).head (block_count (header_of m.keys at)))
     where
       go : (a : Bool) → header_sound m.keys at ≡ a → (b : Bool)
-          → Small st.buckets (cond (a && b) (Lane i at (key_length m.keys at) (lane_length (header_of m.keys at)))
-          (Halt 4))
+          → SmallLane st.buckets (cond (a && b) (Ok (met_lane i at (key_length m.keys at) (lane_length (header_of m.keys at))))
+          (Err Damaged))
       go true e true = (
         h,
         k,
@@ -185,52 +195,49 @@ gather_lane st m left index j at l p q =
     let s : left ≡ suc (left - 1) = omega arith in
     ap (λ (k : ℕ). gather_from st m k index) s ∙ rw (p, q)
 
-pub record Turn (st : State) (m : Lent) (left index : ℕ) (j at name n : ℕ) : Type 0 where
-  pub rest : gather_from st m left index ≡ lane_before (lane_at m at) (gather_from st m (left - 1) (j + 1))
-  pub name_is : length (lane_at m at).name ≡ name
-  pub bytes_is : length (lane_at m at).bytes ≡ n
-  pub standing : Standing st m at n
-  pub key_is : key_length m.keys at ≡ name
+pub record Turn (st : State) (m : Lent) (left index : ℕ) (a : MetLane) : Type 0 where
+  pub rest : gather_from st m left index ≡ lane_before (lane_at m a.at) (gather_from st m (left - 1) (a.bucket + 1))
+  pub name_is : length (lane_at m a.at).name ≡ a.name
+  pub bytes_is : length (lane_at m a.at).bytes ≡ a.bytes
+  pub standing : Standing st m a.at a.bytes
+  pub key_is : key_length m.keys a.at ≡ a.name
 
-pub turn : (st : State) (m : Lent) (left index : ℕ) (j at name n : ℕ) → checked st m ≡ true → 0 < left
-    → next_lane_of st m index ≡ Lane j at name n
-    → Turn st m left index j at name n
+pub turn : (st : State) (m : Lent) (left index : ℕ) (a : MetLane) → checked st m ≡ true → 0 < left
+    → next_lane_of st m index ≡ Ok (Some a)
+    → Turn st m left index a
 unfolding next_lane_of met_of
-turn st m left index j at name n c l e = go (next_of st m index) refl e
+turn st m left index a c l e = go (next_of st m index) refl e
   where
-    made : (j' at' : ℕ) → next_of st m index ≡ Bucket j' at' → (b : Bool) → blocks_sound st m at' ≡ b
-        → cond b (Lane j' at' (key_length m.keys at') (lane_length (header_of m.keys at'))) (Halt 4)
-        ≡ Lane j at name n → Turn st m left index j at name n
-    made j' at' p true q e =
-        let x : at' ≡ at = cc in
-        let y : j' ≡ j = cc in
-        let u : key_length m.keys at' ≡ name = cc in
-        let v : lane_length (header_of m.keys at') ≡ n = cc in
-        let H = next-held st m index j' at' c p in
-        rw (← x, ← y) (record {
-          rest = gather_lane st m left index j' at' l p q;
-          name_is = lane-name st m at' H.in-keys ∙ u;
-          bytes_is = lane-bytes st m at' c q ∙ v;
+    made : (j at : ℕ) → next_of st m index ≡ Bucket j at → (b : Bool) → blocks_sound st m at ≡ b
+        → some_lane (cond b (Ok (met_lane j at (key_length m.keys at) (lane_length (header_of m.keys at)))) (Err Damaged))
+        ≡ Ok (Some a) → Turn st m left index a
+    made j at p true q e =
+        let x : met_lane j at (key_length m.keys at) (lane_length (header_of m.keys at)) ≡ a = cc in
+        let H = next-held st m index j at c p in
+        subst (Turn st m left index) x (record {
+          rest = gather_lane st m left index j at l p q;
+          name_is = lane-name st m at H.in-keys;
+          bytes_is = lane-bytes st m at c q;
           standing = record {
             list_arena = (whole_facts st (length m.table) (length m.keys) (length m.lists) c).list_arena;
-            length-in = (value_in st m j' at' H).0;
-            value_in = (value_in st m j' at' H).1;
+            length-in = (value_in st m j at H).0;
+            value_in = (value_in st m j at H).1;
             sound = q;
-            bytes_are = v;
+            bytes_are = refl;
           };
-          key_is = u;
+          key_is = refl;
         })
-    made j' at' p false q e = let z : ◌≡◌ {A = ℕ} 0 1 = cc in absurd (omega arith)
+    made j at p false q e = let z : ◌≡◌ {A = ℕ} 0 1 = cc in absurd (omega arith)
 
-    go : (x : Listed) → next_of st m index ≡ x → on_next_lane x st m ≡ Lane j at name n → Turn st m left index j at name n
-    go (Bucket j' at') p e = made j' at' p (blocks_sound st m at') refl e
+    go : (x : Listed) → next_of st m index ≡ x → on_next_lane x st m ≡ Ok (Some a) → Turn st m left index a
+    go (Bucket j at) p e = made j at p (blocks_sound st m at) refl e
     go NoMore p e = let z : ◌≡◌ {A = ℕ} 0 1 = cc in absurd (omega arith)
     go (Stopped k) p e = let z : ◌≡◌ {A = ℕ} 0 1 = cc in absurd (omega arith)
 
 -- the sums of more lanes in front
-abbrev plus_of : ℕ → ℕ → ℕ → Measured → Measured
-plus_of a b c (Sums x y z) = Sums (a + x) (b + y) (c + z)
-plus_of a b c (Halted n) = Halted n
+abbrev plus_of : ℕ → ℕ → ℕ → Result Sums Refusal → Result Sums Refusal
+plus_of a b c (Ok s) = Ok (sums (a + s.lanes) (b + s.bytes) (c + s.text))
+plus_of a b c (Err k) = Err k
 
 plus_lane : (a b c : ℕ) (x : TextLane) (g : Gathered)
     → plus_of a b c (measured_of (lane_before x g))
@@ -242,7 +249,7 @@ plus_lane a b c x (gathered ls) =
     let r : c + length (lane_text x ++ lanes_text ls)
     ≡ c + lane_size (length x.name) (length x.bytes) + length (lanes_text ls) =
     omega (arith, length-append (lane_text x) (lanes_text ls), lane-long x) in
-    λ i. Sums (p i) (q i) (r i)
+    λ i. Ok (sums (p i) (q i) (r i))
 plus_lane a b c x (halted n) = refl
 
 pub record Measuring (st : State) (m : Lent) (left index lanes bytes text : ℕ) : Type 0 where
@@ -260,10 +267,13 @@ measuring_starts st m = record {
       (measured_of (gather_all st m));
 }
   where
-    none : (x : Measured) → x ≡ plus_of 0 0 0 x
-    none (Sums a b c) = let p : a ≡ 0 + a = omega arith in let q : b ≡ 0 + b = omega arith in let r : c
-        ≡ 0 + c = omega arith in λ i. Sums (p i) (q i) (r i)
-    none (Halted n) = refl
+    none : (x : Result Sums Refusal) → x ≡ plus_of 0 0 0 x
+    none (Ok s) =
+        let p : s.lanes ≡ 0 + s.lanes = omega arith in
+        let q : s.bytes ≡ 0 + s.bytes = omega arith in
+        let r : s.text ≡ 0 + s.text = omega arith in
+        λ i. Ok (sums (p i) (q i) (r i))
+    none (Err k) = refl
 
 pub measuring-few : {st : State} {m : Lent} {left index lanes bytes text : ℕ}
     → Measuring st m left index lanes bytes text → checked st m ≡ true → lanes + left ≤ bucket_limit
@@ -277,12 +287,13 @@ measuring-few {st} {m} M c =
 
 pub measuring-on : {st : State} {m : Lent} {left index lanes bytes text : ℕ}
     → Measuring st m left index lanes bytes text → checked st m ≡ true → 0 < left
-    → (j at name n size : ℕ) → next_lane_of st m index ≡ Lane j at name n → n ≤ 4587094008 → size ≡ lane_size name n
-    → size ≤ 10000000000
-    → Measuring st m (left - 1) (j + 1) (lanes + 1) (bytes + n) (text + size)
-measuring-on {st} {m} {left} {index} {lanes} {bytes} {text} M c l j at name n size e k f g =
-    let T = turn st m left index j at name n c l e in
-    let s : lane_size (length (lane_at m at).name) (length (lane_at m at).bytes) ≡ size =
+    → (a : MetLane) (size : ℕ) → next_lane_of st m index ≡ Ok (Some a) → a.bytes ≤ 4587094008
+    → size ≡ lane_size a.name a.bytes → size ≤ 10000000000
+    → (rest : ℕ) → rest ≡ left - 1
+    → Measuring st m rest (a.bucket + 1) (lanes + 1) (bytes + a.bytes) (text + size)
+measuring-on {st} {m} {left} {index} {lanes} {bytes} {text} M c l a size e k f g rest h =
+    let T = turn st m left index a c l e in
+    let s : lane_size (length (lane_at m a.at).name) (length (lane_at m a.at).bytes) ≡ size =
     (λ i. lane_size (T.name_is i) (T.bytes_is i)) ∙ sym f in
     record {
       turns = omega (arith, M.turns);
@@ -290,87 +301,84 @@ measuring-on {st} {m} {left} {index} {lanes} {bytes} {text} M c l j at name n si
       text_le = omega (arith, M.text_le);
       whole =
           M.whole ∙ ap (λ (x : Gathered). plus_of lanes bytes text (measured_of x)) T.rest
-          ∙ plus_lane lanes bytes text (lane_at m at) (gather_from st m (left - 1) (j + 1))
+          ∙ plus_lane lanes bytes text (lane_at m a.at) (gather_from st m (left - 1) (a.bucket + 1))
           ∙ (λ i. plus_of (lanes + 1) (bytes + T.bytes_is i) (text + s i)
-          (measured_of (gather_from st m (left - 1) (j + 1))));
+          (measured_of (gather_from st m (sym h i) (a.bucket + 1))));
     }
 
--- where no lane follows
-gather_over : (st : State) (m : Lent) (left index : ℕ) (x : NextLane) → 0 < left → next_lane_of st m index ≡ x
-    → (a b c : ℕ) → ((j at name n : ℕ) → x ≡ Lane j at name n → ⊥)
-    → plus_of a b c (measured_of (gather_from st m left index)) ≡ over_of x a b c
-unfolding gather_from next_lane_of met_of measured_of total_of lanes_text
-gather_over st m left index x l e a b c f =
-    let s : left ≡ suc (left - 1) = omega arith in
-    ap (λ (k : ℕ). plus_of a b c (measured_of (gather_from st m k index))) s ∙ go (next_of st m index) e
-  where
-    z : Sums (a + 0) (b + 0) (c + 0) ≡ Sums a b c
-    z = let p : a + 0 ≡ a = omega arith in let q : b + 0 ≡ b = omega arith in let r : c + 0 ≡ c = omega arith in
-        λ i. Sums (p i) (q i) (r i)
+-- where no lane follows, and where damage does
+module _ (st : State) (m : Lent) (left index : ℕ) (l : 0 < left) where
+  pub gather_none : next_lane_of st m index ≡ Ok None → gather_from st m left index ≡ gathered []
+  unfolding gather_from next_lane_of met_of
+  gather_none e =
+      let s : left ≡ suc (left - 1) = omega arith in
+      ap (λ (k : ℕ). gather_from st m k index) s ∙ go (next_of st m index) e
+    where
+      met : (j at : ℕ) (t : Bool)
+          → some_lane (cond t (Ok (met_lane j at (key_length m.keys at) (lane_length (header_of m.keys at)))) (Err Damaged))
+          ≡ Ok None
+          → cond t (lane_before (lane_at m at) (gather_from st m (left - 1) (j + 1))) (halted Damaged) ≡ gathered []
+      met j at true e = let z : ◌≡◌ {A = ℕ} 0 1 = cc in absurd (omega arith)
+      met j at false e = let z : ◌≡◌ {A = ℕ} 0 1 = cc in absurd (omega arith)
 
-    met : (j at : ℕ) (t : Bool) → cond t (Lane j at (key_length m.keys at) (lane_length (header_of m.keys at)))
-        (Halt 4) ≡ x
-        → plus_of a b c (measured_of (cond t (lane_before (lane_at m at) (gather_from st m (left - 1) (j + 1))) (halted 4)))
-        ≡ over_of x a b c
-    met j at true e = absurd (f j at (key_length m.keys at) (lane_length (header_of m.keys at)) (sym e))
-    met j at false e = ap (λ (x : NextLane). over_of x a b c) e
+      go : (y : Listed) → on_next_lane y st m ≡ Ok None
+          → on_listed y st m (λ j. gather_from st m (left - 1) j) ≡ gathered []
+      go (Bucket j at) e = met j at (blocks_sound st m at) e
+      go NoMore e = refl
+      go (Stopped k) e = let z : ◌≡◌ {A = ℕ} 0 1 = cc in absurd (omega arith)
 
-    go : (y : Listed) → on_next_lane y st m ≡ x
-        → plus_of a b c (measured_of (on_listed y st m (λ j. gather_from st m (left - 1) j))) ≡ over_of x a b c
-    go (Bucket j at) e = met j at (blocks_sound st m at) e
-    go NoMore e = z ∙ ap (λ (x : NextLane). over_of x a b c) e
-    go (Stopped k) e = ap (λ (x : NextLane). over_of x a b c) e
+  pub gather_halted : (k : Refusal) → next_lane_of st m index ≡ Err k → gather_from st m left index ≡ halted k
+  unfolding gather_from next_lane_of met_of
+  gather_halted k e =
+      let s : left ≡ suc (left - 1) = omega arith in
+      ap (λ (k : ℕ). gather_from st m k index) s ∙ go (next_of st m index) e
+    where
+      met : (j at : ℕ) (t : Bool)
+          → some_lane (cond t (Ok (met_lane j at (key_length m.keys at) (lane_length (header_of m.keys at)))) (Err Damaged))
+          ≡ Err k
+          → cond t (lane_before (lane_at m at) (gather_from st m (left - 1) (j + 1))) (halted Damaged) ≡ halted k
+      met j at true e = let z : ◌≡◌ {A = ℕ} 0 1 = cc in absurd (omega arith)
+      met j at false e = let z : Damaged ≡ k = cc in ap halted z
 
-pub measuring_over : {st : State} {m : Lent} {left index lanes bytes text : ℕ}
-    → Measuring st m left index lanes bytes text → 0 < left
-    → (x : NextLane) → next_lane_of st m index ≡ x → ((j at name n : ℕ) → x ≡ Lane j at name n → ⊥)
-    → over_of x lanes bytes text ≡ measured_of (gather_all st m)
-measuring_over {st} {m} {left} {index} {lanes} {bytes} {text} M l x e f =
-    sym (M.whole ∙ gather_over st m left index x l e lanes bytes text f)
+      go : (y : Listed) → on_next_lane y st m ≡ Err k
+          → on_listed y st m (λ j. gather_from st m (left - 1) j) ≡ halted k
+      go (Bucket j at) e = met j at (blocks_sound st m at) e
+      go NoMore e = let z : ◌≡◌ {A = ℕ} 0 1 = cc in absurd (omega arith)
+      go (Stopped n) e = let z : stopped_by n ≡ k = cc in ap halted z
 
-pub measuring-ends : {st : State} {m : Lent} {left index lanes bytes text : ℕ}
-    → Measuring st m left index lanes bytes text → left ≡ 0
-    → Sums lanes bytes text ≡ measured_of (gather_all st m)
-unfolding gather_from measured_of total_of lanes_text
-measuring-ends {st} {m} {left} {index} {lanes} {bytes} {text} M z =
-    let p : lanes + 0 ≡ lanes = omega arith in
-    let q : bytes + 0 ≡ bytes = omega arith in
-    let r : text + 0 ≡ text = omega arith in
-    sym (M.whole ∙ ap (λ (k : ℕ). plus_of lanes bytes text (measured_of (gather_from st m k index))) z
-    ∙ (λ i. Sums (p i) (q i) (r i)))
+module _ {st : State} {m : Lent} {left index lanes bytes text : ℕ} (M : Measuring st m left index lanes bytes text) where
+  -- where none is left
+  measuring_last : gather_from st m left index ≡ gathered [] → Ok (sums lanes bytes text) ≡ measured_of (gather_all st m)
+  unfolding measured_of total_of lanes_text
+  measuring_last e =
+      let p : lanes + 0 ≡ lanes = omega arith in
+      let q : bytes + 0 ≡ bytes = omega arith in
+      let r : text + 0 ≡ text = omega arith in
+      sym (M.whole ∙ ap (λ (x : Gathered). plus_of lanes bytes text (measured_of x)) e ∙ (λ i. Ok (sums (p i) (q i) (r i))))
 
--- ---- what a taken-apart answer is not
+  pub measuring_over : 0 < left → next_lane_of st m index ≡ Ok None
+      → Ok (sums lanes bytes text) ≡ measured_of (gather_all st m)
+  measuring_over l e = measuring_last (gather_none st m left index l e)
 
-pub over_sums : (x : NextLane) (a b c : ℕ) → OneOf (0 ∷ 1 ∷ []) (tag_of the_type x) → Sums a b c ≡ over_of x a b c
-over_sums (Lane j at name n) a b c o = refl
-over_sums NoLane a b c o = refl
-over_sums (Halt k) a b c o = absurd (miss (0 ∷ 1 ∷ []) 2 tt o)
+  pub measuring-ends : left ≡ 0 → Ok (sums lanes bytes text) ≡ measured_of (gather_all st m)
+  unfolding gather_from
+  measuring-ends z = measuring_last (ap (λ (k : ℕ). gather_from st m k index) z)
 
-pub not_lane : (x : NextLane) → OneOf (1 ∷ 2 ∷ []) (tag_of the_type x) → (j at name n : ℕ) → x ≡ Lane j at name n → ⊥
-not_lane (Lane j at name n) o j' at' name' n' e = absurd (miss (1 ∷ 2 ∷ []) 0 tt o)
-not_lane NoLane o j at name n e = let z : ◌≡◌ {A = ℕ} 0 1 = cc in omega arith
-not_lane (Halt k) o j at name n e = let z : ◌≡◌ {A = ℕ} 0 1 = cc in omega arith
+  pub measuring_halted : 0 < left → (k : Refusal) → next_lane_of st m index ≡ Err k
+      → Err k ≡ measured_of (gather_all st m)
+  unfolding measured_of
+  measuring_halted l k e =
+      sym (M.whole ∙ ap (λ (x : Gathered). plus_of lanes bytes text (measured_of x)) (gather_halted st m left index l k e))
 
 -- where no lane follows in a store without damage, none is left
-pub none_left : (st : State) (m : Lent) (left index : ℕ) (x : NextLane) (ls : List TextLane) → 0 < left
-    → next_lane_of st m index ≡ x
-    → ((j at name n : ℕ) → x ≡ Lane j at name n → ⊥) → gather_from st m left index ≡ gathered ls → ls ≡ []
-unfolding gather_from next_lane_of met_of
-none_left st m left index x ls l e f g =
-    let s : left ≡ suc (left - 1) = omega arith in
-    go (next_of st m index) e (ap (λ (k : ℕ). gather_from st m k index) (sym s) ∙ g)
-  where
-    met : (j at : ℕ) (t : Bool) → cond t (Lane j at (key_length m.keys at) (lane_length (header_of m.keys at)))
-        (Halt 4) ≡ x
-        → cond t (lane_before (lane_at m at) (gather_from st m (left - 1) (j + 1))) (halted 4) ≡ gathered ls → ls ≡ []
-    met j at true e g = absurd (f j at (key_length m.keys at) (lane_length (header_of m.keys at)) (sym e))
-    met j at false e g = let z : ◌≡◌ {A = ℕ} 0 1 = cc in absurd (omega arith)
+pub none_left : (st : State) (m : Lent) (left index : ℕ) (ls : List TextLane) → 0 < left
+    → next_lane_of st m index ≡ Ok None → gather_from st m left index ≡ gathered ls → ls ≡ []
+none_left st m left index ls l e g = let f = gather_none st m left index l e in cc
 
-    go : (y : Listed) → on_next_lane y st m ≡ x → on_listed y st m (λ j. gather_from st m (left - 1) j) ≡ gathered ls → ls
-        ≡ []
-    go (Bucket j at) e g = met j at (blocks_sound st m at) e g
-    go NoMore e g = cc
-    go (Stopped k) e g = let z : ◌≡◌ {A = ℕ} 0 1 = cc in absurd (omega arith)
+pub none_halted : (st : State) (m : Lent) (left index : ℕ) (ls : List TextLane) (k : Refusal) → 0 < left
+    → next_lane_of st m index ≡ Err k → gather_from st m left index ≡ gathered ls → ⊥
+none_halted st m left index ls k l e g =
+    let f = gather_halted st m left index l k e in let z : ◌≡◌ {A = ℕ} 0 1 = cc in omega arith
 
 pub none_more : (st : State) (m : Lent) (index : ℕ) (ls : List TextLane) → gather_from st m 0 index ≡ gathered ls → ls
     ≡ []
@@ -380,13 +388,8 @@ none_more st m index ls g = cc
 -- ---- the sums are few
 
 pub few_sums : {st : State} {m : Lent} {left index lanes bytes text : ℕ} → Measuring st m left index lanes bytes text
-    → checked st m ≡ true → Few (Sums lanes bytes text)
+    → checked st m ≡ true → Few (Ok (sums lanes bytes text))
 few_sums M c = let f = measuring-few M c in (omega arith, omega (arith, M.bytes_le), omega (arith, M.text_le))
-
-pub few_over : (x : NextLane) (a b c : ℕ) → Few (Sums a b c) → Few (over_of x a b c)
-few_over (Lane j at name n) a b c f = f
-few_over NoLane a b c f = f
-few_over (Halt k) a b c f = tt
 
 -- a lane that is no damage has no more bytes than a header can tell
 pub sound-lane_most : (st : State) (m : Lent) (at : ℕ) → checked st m ≡ true → blocks_sound st m at ≡ true

@@ -10,80 +10,97 @@ ghost use Rattle.std.specs.Prelude.{◌≡◌, true, ◌+◌, ◌≤◌, ◌<◌
 ghost use Rattle.memory_arena.specs.Calls.{sensible};
 ghost use Rattle.records.specs.Record.{value_place};
 ghost use Rattle.store_look.specs.Look.{lent, checked};
-ghost use Rattle.report_lanes.specs.Lanes.{gather_all};
-ghost use Rattle.report_lanes.specs.Measure.{on_outcome, on_answer, met_of, next_lane_of, lane_size, measured_of};
-ghost use Rattle.report_lanes.specs.Measure.{over_of, Small, Few};
+ghost use Rattle.report_lanes.specs.Lanes.{gather_all, stopped_by};
+ghost use Rattle.report_lanes.specs.Measure.{on_answer, met_of, next_lane_of, lane_size, measured_of};
+ghost use Rattle.report_lanes.specs.Measure.{SmallLane, Small, Few};
 
+use limits::Refusal;
 use store_look::{Answer, Listed, Outcome};
 use store_state::State;
 
-// The next lane: its bucket, its record's place, the bytes of its name and its own; or none; or a refusal's number.
-#[derive(Clone, Copy)]
-pub enum NextLane {
-    Lane(usize, u32, u64, u64),
-    NoLane,
-    Halt(u32),
+// A lane that was met: its bucket, its record's place, the bytes of its name and its own.
+#[derive(Clone, Copy, Debug, PartialEq, Eq)]
+pub struct MetLane {
+    pub bucket: usize,
+    pub at: u32,
+    pub name: u64,
+    pub bytes: u64,
 }
 
-// How many lanes, their bytes, and the bytes of their text; or a refusal's number.
-#[derive(Clone, Copy)]
-pub enum Measured {
-    Sums(u64, u64, u64),
-    Halted(u32),
+// How many lanes, their bytes, and the bytes of their text.
+#[derive(Clone, Copy, Debug, PartialEq, Eq)]
+pub struct Sums {
+    pub lanes: u64,
+    pub bytes: u64,
+    pub text: u64,
 }
 
 // ---- each lane met
 
-fn on_outcome(o: Outcome, i: usize, at: u32, name: u64) -> NextLane
-    ensures { result ≡ on_outcome o i at name }
+// A lane's length, which a reading into no output at all tells with 8 or as a reading; anything else is damage.
+fn length_told(answer: Answer) -> Result<u64, Refusal>
+    ensures { result ≡ on_answer answer }
 {
-    match o {
-        Outcome::Length(_) => NextLane::Halt(4),
-        Outcome::Reading(n) => NextLane::Lane(i, at, name, n),
-        Outcome::Block(_, _) => NextLane::Halt(4),
-        Outcome::NoSuchBlock => NextLane::Halt(4),
-    }
-}
-
-fn on_answer(r: Answer, i: usize, at: u32, name: u64) -> NextLane
-    ensures { result ≡ on_answer r i at name }
-{
-    match r {
-        Answer::Absent => NextLane::Halt(4),
-        Answer::Found(o) => on_outcome(o, i, at, name),
-        Answer::Refused(k, n) => {
-            if k == 8 {
-                return NextLane::Lane(i, at, name, n);
-            }
-            NextLane::Halt(4)
-        }
+    match answer {
+        Answer::Found(Outcome::Reading(n)) => Ok(n),
+        Answer::Refused(8, n) => Ok(n),
+        _ => Err(Refusal::Damaged),
     }
 }
 
 // The lane of the record at a place: a reading into no output at all meets every block and tells the length.
-fn meet(st: State, table: &[u32], keys: &[u8], lists: &[u8], i: usize, at: u32) -> NextLane
+fn meet(
+    st: State,
+    table: &[u32],
+    keys: &[u8],
+    lists: &[u8],
+    bucket: usize,
+    at: u32,
+) -> Result<MetLane, Refusal>
     requires { (sensible st.list_arena (length lists.now) ≡ true)
-        × ((i < st.buckets) × ((at + 2 ≤ length keys.now) × (value_place keys.now at + 16 ≤ length keys.now))) }
-    ensures { (result ≡ met_of st (lent table.now keys.now lists.now) i at)
-        × Small st.buckets result }
+        × ((bucket < st.buckets) × ((at + 2 ≤ length keys.now) × (value_place keys.now at + 16 ≤ length keys.now))) }
+    ensures { (result ≡ met_of st (lent table.now keys.now lists.now) bucket at)
+        × SmallLane st.buckets result }
 {
     let mut none = [0u8; 1];
-    let r = store_look::lane::read_at(st, table, keys, lists, at, &mut none[0..0]);
-    let name = records::key_length(keys, at);
-    on_answer(r, i, at, name as u64)
+    let answer = store_look::lane::read_at(st, table, keys, lists, at, &mut none[0..0]);
+    let bytes = length_told(answer)?;
+    let name = records::key_length(keys, at) as u64;
+    Ok(MetLane {
+        bucket,
+        at,
+        name,
+        bytes,
+    })
 }
 
-// The next lane from a bucket on.
-pub fn next_lane(st: State, table: &[u32], keys: &[u8], lists: &[u8], index: usize) -> NextLane
+// Why the listing stopped: damage, or a state that isn't one of the memory.
+fn stopped(number: u32) -> Refusal
+    ensures { result ≡ stopped_by number }
+{
+    if number == 2 {
+        Refusal::NotWhole
+    } else {
+        Refusal::Damaged
+    }
+}
+
+// The next lane from a bucket on, or none.
+pub fn next_lane(
+    st: State,
+    table: &[u32],
+    keys: &[u8],
+    lists: &[u8],
+    index: usize,
+) -> Result<Option<MetLane>, Refusal>
     requires { checked st (lent table.now keys.now lists.now) ≡ true }
     ensures { (result ≡ next_lane_of st (lent table.now keys.now lists.now) index)
         × Small st.buckets result }
 {
-    let next = store_look::listing::next_occupied(st, table, keys, lists, index);
-    match next {
-        Listed::Bucket(i, at) => meet(st, table, keys, lists, i, at),
-        Listed::NoMore => NextLane::NoLane,
-        Listed::Stopped(n) => NextLane::Halt(n),
+    match store_look::listing::next_occupied(st, table, keys, lists, index) {
+        Listed::Bucket(i, at) => Ok(Some(meet(st, table, keys, lists, i, at)?)),
+        Listed::NoMore => Ok(None),
+        Listed::Stopped(n) => Err(stopped(n)),
     }
 }
 
@@ -95,38 +112,27 @@ pub fn lane_size(name: u64, n: u64) -> u64
     18 + 2 * name + (report_put::digit_count(n) as u64) + 2 * n
 }
 
-// The sums where no lane follows.
-fn over(r: NextLane, lanes: u64, bytes: u64, text: u64) -> Measured
-    ensures { result ≡ over_of r lanes bytes text }
-{
-    let NextLane::Halt(n) = r else {
-        return Measured::Sums(lanes, bytes, text);
-    };
-    Measured::Halted(n)
-}
-
 // Meets all lanes, and measures their text.
-pub fn measure(st: State, table: &[u32], keys: &[u8], lists: &[u8]) -> Measured
+pub fn measure(st: State, table: &[u32], keys: &[u8], lists: &[u8]) -> Result<Sums, Refusal>
     requires { checked st (lent table.now keys.now lists.now) ≡ true }
     ensures { (result ≡ measured_of
         (gather_all st (lent table.now keys.now lists.now))) × Few result }
 {
-    let mut left = st.buckets;
     let mut index = 0;
-    let mut lanes: u64 = 0;
-    let mut bytes: u64 = 0;
-    let mut text: u64 = 0;
-    while 0 < left {
-        let r = next_lane(st, table, keys, lists, index);
-        let NextLane::Lane(i, _, name, n) = r else {
-            return over(r, lanes, bytes, text);
+    let mut sums = Sums {
+        lanes: 0,
+        bytes: 0,
+        text: 0,
+    };
+    for _ in 0..st.buckets {
+        let Some(lane) = next_lane(st, table, keys, lists, index)? else {
+            return Ok(sums);
         };
-        let size = lane_size(name, n);
-        index = i + 1;
-        left -= 1;
-        lanes += 1;
-        bytes += n;
-        text += size;
+        let size = lane_size(lane.name, lane.bytes);
+        sums.lanes += 1;
+        sums.bytes += lane.bytes;
+        sums.text += size;
+        index = lane.bucket + 1;
     }
-    Measured::Sums(lanes, bytes, text)
+    Ok(sums)
 }

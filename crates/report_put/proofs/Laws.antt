@@ -10,7 +10,7 @@ use lib.Dec.{ltb}
 use lib.ListN.{length, take, drop, get_or, set, length-append, length-drop}
 use lib.Seq.{take-suc, take_all, get_or-drop}
 use Rattle.spans.specs.Span.{overwrite}
-use Rattle.spans.proofs.Laws.{length-overwrite, read-after, span_at, store-one, store-next, overwrite-append}
+use Rattle.spans.proofs.Laws.{read-after, span_at, store-one, store-next, overwrite-append}
 use Rattle.spans.proofs.Laws.{overwrite_swap, overwrite_none, overwrite-all}
 use Rattle.report_text.specs.Text.{newline, hex_digit, hex, digits, decimal, line}
 use Rattle.report_text.proofs.Values.{digits_last, digits-on, reach, hex-length}
@@ -50,33 +50,27 @@ two_more at p i x s m h e f =
     ∙ ap (λ (n : ℕ). take n s) (sym (add-one i))))
 
 -- the output while i bytes of a source are written from a place
-pub record Putting (at : ℕ) (s m o : List ℕ) (p i : ℕ) : Type 0 where
+pub record Putting (at : ℕ) (s m o : List ℕ) (i : ℕ) : Type 0 where
   pub within : i ≤ length s
-  pub place : p ≡ at + 2 * i
   pub output : o ≡ overwrite at (hex (take i s)) m
 
-pub putting_starts : (at : ℕ) (s m : List ℕ) → Putting at s m m at 0
+pub putting_starts : (at : ℕ) (s m : List ℕ) → Putting at s m m 0
 putting_starts at s m = record {
   within = omega arith;
-  place = omega arith;
   output = sym (ap (λ (b : List ℕ). overwrite at b m) hex_none ∙ overwrite_none at m);
 }
 
-pub putting-length : {at : ℕ} {s m o : List ℕ} {p i : ℕ} → Putting at s m o p i → length o ≡ length m
-putting-length {at} {s} {m} {o} {p} {i} P = ap length P.output ∙ length-overwrite at (hex (take i s)) m
+module _ {at : ℕ} {s m o : List ℕ} {i : ℕ} (P : Putting at s m o i) where
+  pub putting-on : i < length s → (p x : ℕ) → p ≡ at + 2 * i → x ≡ get_or s i 0
+      → Putting at s m (set (set o p (hex_digit (x / 16))) (p + 1) (hex_digit (x % 16))) (i + 1)
+  putting-on h p x e f = record {
+    within = omega arith;
+    output = ap (λ (o : List ℕ). set (set o p (hex_digit (x / 16))) (p + 1) (hex_digit (x % 16))) P.output
+        ∙ two_more at p i x s m h e f;
+  }
 
-pub putting-on : {at : ℕ} {s m o : List ℕ} {p i : ℕ} → Putting at s m o p i → i < length s → (x : ℕ) → x ≡ get_or s i 0
-    → Putting at s m (set (set o p (hex_digit (x / 16))) (p + 1) (hex_digit (x % 16))) (p + 1 + 1) (i + 1)
-putting-on {at} {s} {m} {o} {p} {i} P h x f = record {
-  within = omega arith;
-  place = omega (arith, P.place);
-  output = ap (λ (o : List ℕ). set (set o p (hex_digit (x / 16))) (p + 1) (hex_digit (x % 16))) P.output
-      ∙ two_more at p i x s m h P.place f;
-}
-
-pub putting-ends : {at : ℕ} {s m o : List ℕ} {p i : ℕ} → Putting at s m o p i → length s ≤ i → o
-    ≡ overwrite at (hex s) m
-putting-ends {at} {s} {m} {o} {p} {i} P h = P.output ∙ ap (λ (b : List ℕ). overwrite at (hex b) m) (take_all i s h)
+  pub putting-ends : length s ≤ i → o ≡ overwrite at (hex s) m
+  putting-ends h = P.output ∙ ap (λ (b : List ℕ). overwrite at (hex b) m) (take_all i s h)
 
 -- what is still to be read of a part that is written over from its front
 overwrite-at : (q : ℕ) (bs m : List ℕ) → length bs ≤ q → get_or (overwrite 0 bs m) q 0 ≡ get_or m q 0
@@ -86,18 +80,18 @@ overwrite-at q bs m h =
     ∙ ap (λ (l : List ℕ). get_or l 0 0) (read-after q 1 0 bs m (omega arith)) ∙ span_at q 1 0 m (omega arith)
     ∙ ap (λ (n : ℕ). get_or m n 0) z
 
-pub spread-read : {n : ℕ} {m o : List ℕ} {p i : ℕ} → Putting 0 (drop n m) m o p i → length m ≡ 2 * n → i < n
+pub spread-read : {n : ℕ} {m o : List ℕ} {i : ℕ} → Putting 0 (drop n m) m o i → length m ≡ 2 * n → i < n
     → get_or o (n + i) 0 ≡ get_or (drop n m) i 0
-spread-read {n} {m} {o} {p} {i} P e h =
+spread-read {n} {m} {o} {i} P e h =
     let l : length (hex (take i (drop n m))) ≡ 2 * i =
     hex-length (take i (drop n m)) ∙ ap (λ (k : ℕ). 2 * k)
     (lib.Seq.length-take-le i (drop n m) (omega (arith, length-drop n m))) in
     ap (λ (o : List ℕ). get_or o (n + i) 0) P.output ∙ overwrite-at (n + i) (hex (take i (drop n m))) m (omega arith)
     ∙ sym (get_or-drop n m i 0)
 
-pub spread-ends : {n : ℕ} {m o : List ℕ} {p i : ℕ} → Putting 0 (drop n m) m o p i → length m ≡ 2 * n → n ≤ i → o
+pub spread-ends : {n : ℕ} {m o : List ℕ} {i : ℕ} → Putting 0 (drop n m) m o i → length m ≡ 2 * n → n ≤ i → o
     ≡ hex (drop n m)
-spread-ends {n} {m} {o} {p} {i} P e h =
+spread-ends {n} {m} {o} {i} P e h =
     putting-ends P (omega (arith, length-drop n m))
     ∙ overwrite-all (hex (drop n m)) m (hex-length (drop n m) ∙ omega (arith, length-drop n m))
 
@@ -160,48 +154,12 @@ counting-on {n} {rest} {k} C h = go C.before C.fits C.rest_is
 pub counting-ends : {n rest k : ℕ} → Counting n rest k → rest < 10 → k ≡ length (decimal n)
 counting-ends {n} {rest} {k} C h = omega (arith, C.long, ap length (rest-ends C.rest_is h))
 
--- writing them from the last
-pub record Writing (n at : ℕ) (m o : List ℕ) (rest p : ℕ) : Type 0 where
-  pub before : ℕ
-  pub behind : List ℕ
-  pub rest_is : Rest n before rest behind
-  pub place : p + 1 + length behind ≡ at + length (decimal n)
-  pub from : at ≤ p
-  pub output : o ≡ overwrite (p + 1) behind m
-
 below_10 : (n : ℕ) → (n < 10) ⊎ (10 ≤ n)
 below_10 n = go (ltb n 10) refl
   where
     go : (t : Bool) → ltb n 10 ≡ t → (n < 10) ⊎ (10 ≤ n)
     go true e = inl (borrow.Author.Tests.ltb-true n 10 e)
     go false e = inr (borrow.Author.Tests.ltb-false n 10 e)
-
-some_digit : (w n : ℕ) → 1 ≤ length (digits (suc w) n)
-some_digit w n =
-    ⊎_elim
-    (λ (h : n < 10). rw (digits_last w n h) (omega arith))
-    (λ (h : 10 ≤ n). rw (digits-on w n h) (simp length-append (omega arith)))
-    (below_10 n)
-
-rest-long : {n w rest : ℕ} {behind : List ℕ} → Rest n w rest behind → 1 + length behind ≤ length (decimal n)
-rest-long {n} {w} {rest} {behind} R =
-    omega (arith, ap length R.whole ∙ length-append (digits (suc w) rest) behind, some_digit w rest)
-
-pub writing_starts : (n at : ℕ) (m : List ℕ) → n < 10 ^ 18 → Writing n at m m n (at + length (decimal n) - 1)
-writing_starts n at m h =
-    let l = rest-long (rest_starts n h) in
-    record {
-      before = 17;
-      behind = [];
-      rest_is = rest_starts n h;
-      place = omega arith;
-      from = omega arith;
-      output = sym
-          (overwrite_none (at + length (decimal n) - 1 + 1) m);
-    }
-
-pub writing-length : {n at : ℕ} {m o : List ℕ} {rest p : ℕ} → Writing n at m o rest p → length o ≡ length m
-writing-length {m = m} {p = p} W = ap length W.output ∙ length-overwrite (p + 1) W.behind m
 
 -- one more in front
 in-front : (p d : ℕ) (behind m : List ℕ) → set (overwrite (p + 1) behind m) p d ≡ overwrite p (d ∷ behind) m
@@ -210,48 +168,81 @@ in-front p d behind m =
     ∙ overwrite_swap p (p + 1) (d ∷ []) behind m (omega arith)
     ∙ sym (overwrite-append p (d ∷ []) behind m)
 
-pub writing-on : {n at : ℕ} {m o : List ℕ} {rest p : ℕ} → Writing n at m o rest p → 10 ≤ rest
-    → Writing n at m (set o p (48 + rest % 10)) (rest / 10) (p - 1)
-writing-on {n} {at} {m} {o} {rest} {p} W h = go W.before W.rest_is
-  where
-    go : (w : ℕ) → Rest n w rest W.behind → Writing n at m (set o p (48 + rest % 10)) (rest / 10) (p - 1)
-    go zero R = absurd (omega (arith, rest_more R h))
-    go (suc w) R =
-        let S = rest-on R h in
-        let l = rest-long S in
-        let z : p ≡ p - 1 + 1 = omega (arith, W.place) in
-        record {
-          before = w;
-          behind = (48 + rest % 10) ∷ W.behind;
-          rest_is = S;
-          place = omega (arith, W.place);
-          from = omega (arith, W.place);
-          output =
-              ap (λ (o : List ℕ). set o p (48 + rest % 10)) W.output ∙ in-front p (48 + rest % 10) W.behind m
-              ∙ ap (λ (q : ℕ). overwrite q ((48 + rest % 10) ∷ W.behind) m) z;
-        }
+-- writing them from the last: those in front are the digits of the rest, those behind stand in the output from p on
+data Front : ℕ → List ℕ → Type 0 where
+  written : (rest : ℕ) → Front rest []
+  left : (w rest : ℕ) → rest < 10 ^ suc w → Front rest (digits (suc w) rest)
 
-pub writing-room : {n at : ℕ} {m o : List ℕ} {rest p : ℕ} → Writing n at m o rest p → p + 1 ≤ at + length (decimal n)
-writing-room W = omega (arith, W.place)
+pub record Writing (n at : ℕ) (m o : List ℕ) (rest p : ℕ) : Type 0 where
+  front : List ℕ
+  behind : List ℕ
+  front_is : Front rest front
+  whole : decimal n ≡ front ++ behind
+  place : p ≡ at + length front
+  output : o ≡ overwrite p behind m
 
--- while two digits are left there is room before p
-pub writing_more : {n at : ℕ} {m o : List ℕ} {rest p : ℕ} → Writing n at m o rest p → 10 ≤ rest → 1 ≤ p
-writing_more {n} {at} {m} {o} {rest} {p} W h = go W.before W.rest_is
-  where
-    go : (w : ℕ) → Rest n w rest W.behind → 1 ≤ p
-    go zero R = absurd (omega (arith, rest_more R h))
-    go (suc w) R = omega (arith, W.place, rest-long (rest-on R h))
+pub writing_starts : (n at : ℕ) (m : List ℕ) → n < 10 ^ 18 → Writing n at m m n (at + length (decimal n))
+writing_starts n at m h = record {
+  front = decimal n;
+  behind = [];
+  front_is = left 17 n h;
+  whole = sym (append-nil (decimal n));
+  place = refl;
+  output = sym (overwrite_none (at + length (decimal n)) m);
+}
 
-pub writing-ends : {n at : ℕ} {m o : List ℕ} {rest p : ℕ} → Writing n at m o rest p → rest < 10
-    → set o p (48 + rest % 10) ≡ overwrite at (decimal n) m
-writing-ends {n} {at} {m} {o} {rest} {p} W h =
-    let e = rest-ends W.rest_is h in
-    let z : p ≡ at = omega (arith, W.place, ap length e) in
-    ap (λ (o : List ℕ). set o p (48 + rest % 10)) W.output ∙ in-front p (48 + rest % 10) W.behind m
-    ∙ (λ i. overwrite (z i) (sym e i) m)
+module _ {n at : ℕ} {m o : List ℕ} {rest p : ℕ} (W : Writing n at m o rest p) where
+  pub writing-on : at < p → Writing n at m (set o (p - 1) (48 + rest % 10)) (rest / 10) (p - 1)
+  writing-on h = go W.front W.front_is W.whole W.place
+    where
+      put : set o (p - 1) (48 + rest % 10) ≡ overwrite (p - 1) ((48 + rest % 10) ∷ W.behind) m
+      put =
+          let z : p ≡ p - 1 + 1 = omega arith in
+          ap (λ (o : List ℕ). set o (p - 1) (48 + rest % 10)) (W.output ∙ ap (λ (q : ℕ). overwrite q W.behind m) z)
+          ∙ in-front (p - 1) (48 + rest % 10) W.behind m
 
-pub decimal_some : (n : ℕ) → n < 10 ^ 18 → 1 ≤ length (decimal n)
-decimal_some n h = rest-long (rest_starts n h)
+      last : (w : ℕ) → rest < 10 → decimal n ≡ digits (suc w) rest ++ W.behind → p ≡ at + length (digits (suc w) rest)
+          → Writing n at m (set o (p - 1) (48 + rest % 10)) (rest / 10) (p - 1)
+      last w l e q =
+          let z : rest ≡ rest % 10 = omega arith in
+          let d : digits (suc w) rest ≡ (48 + rest % 10) ∷ [] = digits_last w rest l ∙ ap (λ (x : ℕ). (48 + x) ∷ []) z in
+          record {
+            front = [];
+            behind = (48 + rest % 10) ∷ W.behind;
+            front_is = written (rest / 10);
+            whole = e ∙ ap (λ (l : List ℕ). l ++ W.behind) d;
+            place = omega (arith, ap length d);
+            output = put;
+          }
+
+      more : (w : ℕ) → rest < 10 ^ suc w → 10 ≤ rest → decimal n ≡ digits (suc w) rest ++ W.behind
+          → p ≡ at + length (digits (suc w) rest)
+          → Writing n at m (set o (p - 1) (48 + rest % 10)) (rest / 10) (p - 1)
+      more zero s l e q = absurd (omega arith)
+      more (suc w) s l e q =
+          let d = digits-on (suc w) rest l in
+          record {
+            front = digits (suc w) (rest / 10);
+            behind = (48 + rest % 10) ∷ W.behind;
+            front_is = left w (rest / 10) (reach (suc w) rest s);
+            whole = e ∙ ap (λ (l : List ℕ). l ++ W.behind) d
+                ∙ append_assoc (digits (suc w) (rest / 10)) ((48 + rest % 10) ∷ []) W.behind;
+            place = omega
+                (arith, ap length d ∙ length-append (digits (suc w) (rest / 10)) ((48 + rest % 10) ∷ []));
+            output = put;
+          }
+
+      go : (f : List ℕ) → Front rest f → decimal n ≡ f ++ W.behind → p ≡ at + length f
+          → Writing n at m (set o (p - 1) (48 + rest % 10)) (rest / 10) (p - 1)
+      go _ (written r) e q = absurd (omega arith)
+      go _ (left w r s) e q = ⊎_elim (λ (l : r < 10). last w l e q) (λ (l : 10 ≤ r). more w s l e q) (below_10 r)
+
+  pub writing-ends : p ≤ at → o ≡ overwrite at (decimal n) m
+  writing-ends h = go W.front W.whole W.place
+    where
+      go : (f : List ℕ) → decimal n ≡ f ++ W.behind → p ≡ at + length f → o ≡ overwrite at (decimal n) m
+      go [] e q = let z : p ≡ at = omega arith in W.output ∙ (λ i. overwrite (z i) (sym e i) m)
+      go (c ∷ f) e q = absurd (omega arith)
 
 -- ---- whole lines
 

@@ -2,11 +2,10 @@
 //
 // Each promises that the output is overwritten from a place with just those bytes, in the words of report_text's
 // definitions, and nothing else. It uses spans, fastcpy and report_text. Its functions have `requires`: they are inner
-// functions
-// of the writer, which has measured the text and knows that it fits.
+// functions of the writer, which has measured the text and knows that it fits.
 #![tactic(auto)]
 
-ghost use Rattle.std.specs.Prelude.{◌≡◌, ◌+◌, ◌*◌, ◌%◌, ◌^◌, ◌≤◌, ◌<◌, length, drop};
+ghost use Rattle.std.specs.Prelude.{◌≡◌, ◌+◌, ◌*◌, ◌^◌, ◌≤◌, ◌<◌, length, drop};
 ghost use Rattle.spans.specs.Span.{overwrite};
 ghost use Rattle.report_text.specs.Text.{hex_digit, hex, decimal, line};
 
@@ -15,10 +14,7 @@ fn hex_digit(n: u8) -> u8
     requires { n < 16 }
     ensures { result ≡ hex_digit n }
 {
-    if n < 10 {
-        return 48 + n;
-    }
-    87 + n
+    if n < 10 { b'0' + n } else { b'a' - 10 + n }
 }
 
 // Bytes as hex.
@@ -26,15 +22,10 @@ pub fn put_hex(output: &mut [u8], at: usize, src: &[u8])
     requires { at + 2 * length src.now ≤ length output.old }
     ensures { output.new ≡ overwrite at (hex src.now) output.old }
 {
-    let mut i = 0;
-    let mut p = at;
-    while i < src.len() {
-        let b = src[i];
-        output[p] = hex_digit(b / 16);
-        let q = p + 1;
-        output[q] = hex_digit(b % 16);
-        p = q + 1;
-        i += 1;
+    for (i, b) in src.iter().enumerate() {
+        let p = at + 2 * i;
+        output[p] = hex_digit(*b / 16);
+        output[p + 1] = hex_digit(*b % 16);
     }
 }
 
@@ -44,16 +35,11 @@ pub fn spread(part: &mut [u8], n: usize)
     requires { length part.old ≡ 2 * n }
     ensures { part.new ≡ hex (drop n part.old) }
 {
-    let mut i = 0;
-    let mut p = 0;
-    while i < n {
-        let from = n + i;
-        let b = part[from];
+    for i in 0..n {
+        let b = part[n + i];
+        let p = 2 * i;
         part[p] = hex_digit(b / 16);
-        let q = p + 1;
-        part[q] = hex_digit(b % 16);
-        p = q + 1;
-        i += 1;
+        part[p + 1] = hex_digit(b % 16);
     }
 }
 
@@ -65,17 +51,10 @@ pub fn digit_count(n: u64) -> usize
     let mut rest = n;
     let mut k = 1;
     while 10 <= rest {
-        rest = rest / 10;
+        rest /= 10;
         k += 1;
     }
     k
-}
-
-// The last digit of a number.
-fn digit(n: u64) -> u8
-    ensures { result ≡ 48 + n % 10 }
-{
-    48 + ((n % 10) as u8)
 }
 
 // A decimal.
@@ -83,14 +62,12 @@ pub fn put_decimal(output: &mut [u8], at: usize, n: u64)
     requires { (n < 10 ^ 18) × (at + length (decimal n) ≤ length output.old) }
     ensures { output.new ≡ overwrite at (decimal n) output.old }
 {
+    let end = at + digit_count(n);
     let mut rest = n;
-    let mut p = at + digit_count(n) - 1;
-    while 10 <= rest {
-        output[p] = digit(rest);
-        rest = rest / 10;
-        p -= 1;
+    for p in (at..end).rev() {
+        output[p] = b'0' + (rest % 10) as u8;
+        rest /= 10;
     }
-    output[p] = digit(rest);
 }
 
 // ---- whole lines

@@ -2,38 +2,56 @@
 use Prim.Native.Nat.{ℕ, zero, suc, ◌+◌, ◌-◌, ◌*◌, ◌≤◌, ◌<◌}
 use mathlib.Core.Path.{◌≡◌, refl, sym, ap, ◌∙◌}
 use mathlib.Core.Bool.{Bool, true, false, cond}
-use mathlib.Core.Option.{Option, none, some}
+use Rattle.std.specs.Prelude.{Option, None, Some, unwrap_or, not, nat_eq, position}
+use Rattle.std.specs.List.{position_or_len}
 use mathlib.Core.List.{List, [], ◌∷◌}
-use native.Mathlib.Numerals.{add-one}
 use native.Mathlib.Omega.{arith}
 use lib.Dec.{ltb, eqb}
-use lib.ListN.{length, take, drop, get_or, drop_of_length-le, length-drop, length-take}
-use lib.Seq.{drop-cons, drop-drop}
-use borrow.Author.Tests.{lt-ltb, le-ltb, ltb-true, ltb-false, eq-eqb, ne_eqb}
+use lib.ListN.{length, take, drop, length-drop, length-take}
+use lib.Seq.{take_all, drop-drop}
+use borrow.Author.Tests.{lt-ltb, le-ltb, ltb-true, ltb-false}
 use Rattle.report_text.specs.Text.{newline, len_word}
 use Rattle.report_text.specs.Reader.{Lines, ended, unended, in_front, lines_of, number_in}
-use Rattle.report_text.specs.Values.{decimal_of}
 use Rattle.report_read.specs.Lines.{line_length, line_end, line_at, next_line, ahead, or_zero, length_told, next_lane}
 use Rattle.report_read.specs.Lines.{lanes_on}
-use Rattle.report_read.specs.Places.{number_told}
 
 -- ---- where a line ends
 
-pub length-turn : (t : List ℕ) (i : ℕ) → i < length t
-    → line_length (drop i t) ≡ cond (eqb (get_or t i 0) newline) 0 (suc (line_length (drop (suc i) t)))
+to_newline : (t : List ℕ) → position_or_len (λ x. nat_eq x newline) t ≡ line_length t
 unfolding line_length
-length-turn t i h = rw (drop-cons t i 0 h)
+to_newline [] = refl
+to_newline (c ∷ t) = go (eqb c newline) (to_newline t)
+  where
+    go : (b : Bool) → position_or_len (λ x. nat_eq x newline) t ≡ line_length t
+        → cond (not b) (1 + position_or_len (λ x. nat_eq x newline) t) 0 ≡ cond b 0 (suc (line_length t))
+    go true e = refl
+    go false e = omega (arith, e)
 
-pub length_stop : (t : List ℕ) (i : ℕ) → i < length t → get_or t i 0 ≡ newline → line_length (drop i t) ≡ 0
-length_stop t i h e = length-turn t i h ∙ rw (eq-eqb (get_or t i 0) newline e)
+-- the part of a list from a place to its end
+pub rest_part : (t : List ℕ) (n : ℕ) → take (length t - n) (drop n t) ≡ drop n t
+rest_part t n = take_all (length t - n) (drop n t) (omega (arith, length-drop n t))
 
-pub length_goes : (t : List ℕ) (i : ℕ) → i < length t → (get_or t i 0 ≡ newline → ⊥)
-    → line_length (drop i t) ≡ suc (line_length (drop (i + 1) t))
-length_goes t i h e = rw (add-one, length-turn t i h, ne_eqb (get_or t i 0) newline e)
+-- the library's first newline, or none
+module _ (t : List ℕ) where
+  pub line_found : (n : ℕ) → position (λ x. nat_eq x newline) t ≡ Some n → (n ≡ line_length t) × (n < length t)
+  line_found n e = go (ltb (position_or_len (λ x. nat_eq x newline) t) (length t)) refl e
+    where
+      go : (b : Bool) → ltb (position_or_len (λ x. nat_eq x newline) t) (length t) ≡ b
+          → cond b (Some (position_or_len (λ x. nat_eq x newline) t)) None ≡ Some n
+          → (n ≡ line_length t) × (n < length t)
+      go true p e =
+          let z : n ≡ position_or_len (λ x. nat_eq x newline) t = cc in
+          let l = ltb-true (position_or_len (λ x. nat_eq x newline) t) (length t) p in
+          (z ∙ to_newline t, omega arith)
+      go false p e = let z : ◌≡◌ {A = ℕ} 0 1 = cc in absurd (omega arith)
 
-pub length-end : (t : List ℕ) (i : ℕ) → length t ≤ i → line_length (drop i t) ≡ 0
-unfolding line_length
-length-end t i h = rw (drop_of_length-le t h)
+  pub line_open : position (λ x. nat_eq x newline) t ≡ None → length t ≤ line_length t
+  line_open e = go (ltb (position_or_len (λ x. nat_eq x newline) t) (length t)) refl e
+    where
+      go : (b : Bool) → ltb (position_or_len (λ x. nat_eq x newline) t) (length t) ≡ b
+          → cond b (Some (position_or_len (λ x. nat_eq x newline) t)) None ≡ None → length t ≤ line_length t
+      go true p e = let z : ◌≡◌ {A = ℕ} 0 1 = cc in absurd (omega arith)
+      go false p e = omega (arith, ltb-false (position_or_len (λ x. nat_eq x newline) t) (length t) p, to_newline t)
 
 line_most : (t : List ℕ) → line_length t ≤ length t
 unfolding line_length
@@ -157,9 +175,9 @@ lanes_next t at (suc k) n h e =
     let p : suc k - 1 ≡ k = omega arith in
     λ i. lanes_on (sym p i) t (sym e i)
 
-told_number : (o : Option ℕ) → number_told (decimal_of o) ≡ or_zero o
-told_number none = refl
-told_number (some n) = refl
+told_number : (o : Option ℕ) → unwrap_or o 0 ≡ or_zero o
+told_number None = refl
+told_number (Some n) = refl
 
 -- the part of a text that a line is
 pub line_part : (t : List ℕ) (at e : ℕ) → e ≡ line_end t at → take (e - at) (drop at t) ≡ line_at t at
@@ -167,7 +185,7 @@ line_part t at e p = let x : e - at ≡ line_length (drop at t) = omega arith in
 
 -- the code's next lane
 pub lane-found : (t : List ℕ) (at a e b n r : ℕ) → a ≡ next_line t at → e ≡ line_end t a → b ≡ next_line t a
-    → n ≡ number_told (decimal_of (number_in len_word (take (e - a) (drop a t)))) → r ≡ ahead t b (7 + 2 * n)
+    → n ≡ unwrap_or (number_in len_word (take (e - a) (drop a t))) 0 → r ≡ ahead t b (7 + 2 * n)
     → r ≡ next_lane t at
 unfolding next_lane length_told
 lane-found t at a e b n r p q s f g =

@@ -2,13 +2,12 @@
 use Prim.Native.Nat.{ℕ, ◌*◌, ◌%◌, ◌<◌}
 use mathlib.Core.Path.{◌≡◌, refl, sym, ap, ◌∙◌, subst}
 use mathlib.Core.Bool.{Bool, true, false, cond, ◌&&◌, not}
-use mathlib.Core.Option.{Option, none, some}
+use Rattle.std.specs.Prelude.{Option, None, Some, option_map}
 use mathlib.Core.List.{List, [], ◌∷◌, ◌++◌}
 use native.Mathlib.Omega.{arith}
 use native.Mathlib.Decide.{ℕ_discrete}
 use lib.Dec.{leb, eqb}
 use lib.ListN.{length}
-use borrow.Author.Tests.{ne_eqb}
 use Rattle.limits.specs.Limits.{name_limit}
 use Rattle.numbers.proofs.Tests.{not_both}
 use Rattle.fastcmp.specs.Equal.{equal_bytes}
@@ -21,17 +20,36 @@ use Rattle.report_text.specs.Text.{end_line, hex}
 use Rattle.report_text.specs.Reader.{Lines, ended, lines_of, and_then, number_in, bytes_in, named, Expects, a_store, a_terms}
 use Rattle.report_text.specs.Reader.{a_total, a_lane, a_length, some_bytes, nothing, name_taken, end_taken}
 use Rattle.report_text.specs.Reader.{bytes_taken, line_read}
-use Rattle.report_text.specs.Values.{hexed_of}
-use Rattle.report_text.specs.declared.fields.Hexed.TheVariants.{Bytes}
 use Rattle.report_text.proofs.Forms.{bytes_form}
 use Rattle.report_text.proofs.Exact.{then_some, provided_some}
 use Rattle.report_read.specs.declared.check.Progress.{Progress}
-use Rattle.report_read.specs.declared.check.Line.{Line}
-use Rattle.report_read.specs.declared.check.Line.TheVariants.{Good}
+use Rattle.report_read.specs.declared.check.Expected.{Expected}
+use Rattle.report_read.specs.declared.check.Expected.TheVariants.{Store as ToStore, Terms as ToTerms, Total as ToTotal, Lane as ToLane}
+use Rattle.report_read.specs.declared.check.Expected.TheVariants.{Length as ToLength, Bytes as ToBytes, Nothing as ToNothing}
 use Rattle.report_read.specs.Lines.{first_lane}
 use Rattle.report_read.specs.Counted.{seen_among, progress, line_counted}
-use Rattle.report_read.specs.Noted.{note_of, noted_of, Vouched}
+use Rattle.report_read.specs.Noted.{is_lane, note_of, noted_of, Vouched}
 use Rattle.report_read.proofs.Counted.{Rel, LineRel, name-seen, line-rel}
+
+-- ---- where a name may stand
+
+is_it_lane : (e : Expected) → Dec (e ≡ ToLane)
+is_it_lane ToStore = no (λ e. cc)
+is_it_lane ToTerms = no (λ e. cc)
+is_it_lane ToTotal = no (λ e. cc)
+is_it_lane ToLane = yes refl
+is_it_lane ToLength = no (λ e. cc)
+is_it_lane ToBytes = no (λ e. cc)
+is_it_lane ToNothing = no (λ e. cc)
+
+not_lane : (e : Expected) → (e ≡ ToLane → ⊥) → is_lane e ≡ false
+not_lane ToStore f = refl
+not_lane ToTerms f = refl
+not_lane ToTotal f = refl
+not_lane ToLane f = absurd (f refl)
+not_lane ToLength f = refl
+not_lane ToBytes f = refl
+not_lane ToNothing f = refl
 
 -- ---- one line noted
 
@@ -135,37 +153,37 @@ pub record Notes (t : List ℕ) (p : Progress) (notes : List ℕ) (L : Lines) : 
 pub notes_size : {t : List ℕ} {p : Progress} {notes : List ℕ} {L : Lines} → Notes t p notes L → length notes ≡ 65536
 notes_size N = N.size
 
-pub notes-start : (t notes : List ℕ) → length notes ≡ 65536 → Notes t (progress 0 0 0 0 0 0) notes (lines_of t)
+pub notes-start : (t notes : List ℕ) → length notes ≡ 65536 → Notes t (progress ToStore 0 0 0 0 0) notes (lines_of t)
 notes-start t notes n = record { size = n; state = a_store; rel = (refl, (omega arith, refl)); noted = tt }
 
 module _ (t l : List ℕ) (L : Lines) (p : Progress) (notes : List ℕ) (maybe : Bool) (notes' : List ℕ) where
   -- where a name may stand
-  noted-three : p.expected ≡ 3 → length notes ≡ 65536 → out maybe notes' ≡ noted_of notes p l
+  noted-three : p.expected ≡ ToLane → length notes ≡ 65536 → out maybe notes' ≡ noted_of notes p l
       → Noted notes (note_of l) maybe notes'
   unfolding noted_of
   noted-three e n o = mark_noted notes (note_of l) maybe notes' (note_place l notes n) (o ∙ rw e)
 
   -- elsewhere nothing is noted
-  noted_not : (p.expected ≡ 3 → ⊥) → out maybe notes' ≡ noted_of notes p l → notes ≡ notes'
+  noted_not : (p.expected ≡ ToLane → ⊥) → out maybe notes' ≡ noted_of notes p l → notes ≡ notes'
   unfolding noted_of
   noted_not e o =
-      let q : out maybe notes' ≡ out true notes = o ∙ rw (ne_eqb p.expected 3 e) in
+      let q : out maybe notes' ≡ out true notes = o ∙ rw (not_lane p.expected e) in
       sym (ap (λ (x : Out). x.marks) q)
 
   vouched : Noted notes (note_of l) maybe notes' → (s : Expects) → Rel t s p (ended l L) → NotedIn notes s
-      → p.expected ≡ 3 → Vouched maybe t p l
+      → p.expected ≡ ToLane → Vouched maybe t p l
   vouched N a_store R D e = absurd (no0 R.0)
     where
-      no0 : p ≡ progress 0 0 0 0 0 0 → ⊥
-      no0 q = omega (arith, e, ap (λ (x : Progress). x.expected) q)
+      no0 : p ≡ progress ToStore 0 0 0 0 0 → ⊥
+      no0 q = let z = sym (ap (λ (x : Progress). x.expected) q) ∙ e in cc
   vouched N a_terms R D e = absurd (no R.0)
     where
-      no : p ≡ progress 1 0 0 0 0 0 → ⊥
-      no q = omega (arith, e, ap (λ (x : Progress). x.expected) q)
+      no : p ≡ progress ToTerms 0 0 0 0 0 → ⊥
+      no q = let z = sym (ap (λ (x : Progress). x.expected) q) ∙ e in cc
   vouched N (a_total k) R D e = absurd (no R.0)
     where
-      no : p ≡ progress 2 k 0 0 0 0 → ⊥
-      no q = omega (arith, e, ap (λ (x : Progress). x.expected) q)
+      no : p ≡ progress ToTotal k 0 0 0 0 → ⊥
+      no q = let z = sym (ap (λ (x : Progress). x.expected) q) ∙ e in cc
   vouched N (a_lane k n seen) R D e = λ m x b.
       let f = bytes_form term_word l x b in
       let u = free_unnamed notes seen x D
@@ -173,36 +191,36 @@ module _ (t l : List ℕ) (L : Lines) (p : Progress) (notes : List ℕ) (maybe :
       ap (λ (q : Progress). seen_among q.lanes l t (first_lane t)) R.0 ∙ name-seen t l L seen x R.2 b ∙ u
   vouched N (a_length k n seen x) R D e = absurd (no R.0)
     where
-      no : p ≡ progress 4 k n (length seen) (total_of seen) 0 → ⊥
-      no q = omega (arith, e, ap (λ (x : Progress). x.expected) q)
+      no : p ≡ progress ToLength k n (length seen) (total_of seen) 0 → ⊥
+      no q = let z = sym (ap (λ (x : Progress). x.expected) q) ∙ e in cc
   vouched N (some_bytes k n seen x len) R D e = absurd (no R.0)
     where
-      no : p ≡ progress 5 k n (length seen) (total_of seen) len → ⊥
-      no q = omega (arith, e, ap (λ (x : Progress). x.expected) q)
-  vouched N (nothing seen) R D e = absurd (omega (arith, e, R.0))
+      no : p ≡ progress ToBytes k n (length seen) (total_of seen) len → ⊥
+      no q = let z = sym (ap (λ (x : Progress). x.expected) q) ∙ e in cc
+  vouched N (nothing seen) R D e = let z = sym R.0 ∙ e in cc
 
   -- THE NOTES VOUCH: a line whose place was free was no name's line
-  pub notes_vouch : Notes t p notes (ended l L) → out maybe notes' ≡ noted_of notes p l → p.expected ≡ 3
+  pub notes_vouch : Notes t p notes (ended l L) → out maybe notes' ≡ noted_of notes p l → p.expected ≡ ToLane
       → Vouched maybe t p l
   notes_vouch N o e = vouched (noted-three e N.size o) N.state N.rel N.noted e
 
   -- what a line adds is noted
-  noted-on : (s s' : Expects) → Grows notes notes' → (p.expected ≡ 3 → marked notes' (note_of l) ≡ true)
-      → Rel t s p (ended l L) → NotedIn notes s → line_read s l ≡ some s' → NotedIn notes' s'
+  noted-on : (s s' : Expects) → Grows notes notes' → (p.expected ≡ ToLane → marked notes' (note_of l) ≡ true)
+      → Rel t s p (ended l L) → NotedIn notes s → line_read s l ≡ Some s' → NotedIn notes' s'
   unfolding line_read name_taken end_taken
   noted-on a_store s' G H R D e =
       subst (NotedIn notes') (provided_some (equal_bytes l store_line) a_terms s' e).1 tt
   noted-on a_terms s' G H R D e =
-      let x = then_some (number_in terms_word l) (λ (k : ℕ). some (a_total k)) s' e in
+      let x = then_some (number_in terms_word l) (λ (k : ℕ). Some (a_total k)) s' e in
       let q : a_total x.0 ≡ s' = cc in
       subst (NotedIn notes') q tt
   noted-on (a_total k) s' G H R D e =
-      let x = then_some (number_in total_word l) (λ (n : ℕ). some (a_lane k n [])) s' e in
+      let x = then_some (number_in total_word l) (λ (n : ℕ). Some (a_lane k n [])) s' e in
       let q : a_lane k x.0 [] ≡ s' = cc in
       subst (NotedIn notes') q tt
   noted-on (a_lane k n seen) s' G H R D e = go (equal_bytes l end_line) e
     where
-      name : and_then (bytes_in term_word l) (λ (x : List ℕ). name_taken k n seen x) ≡ some s' → NotedIn notes' s'
+      name : and_then (bytes_in term_word l) (λ (x : List ℕ). name_taken k n seen x) ≡ Some s' → NotedIn notes' s'
       name e =
           let x = then_some (bytes_in term_word l) (λ (y : List ℕ). name_taken k n seen y) s' e in
           let f = bytes_form term_word l x.0 x.1 in
@@ -215,14 +233,14 @@ module _ (t l : List ℕ) (L : Lines) (p : Progress) (notes : List ℕ) (maybe :
           )
 
       go : (b : Bool)
-          → cond b (end_taken k n seen) (and_then (bytes_in term_word l) (λ (x : List ℕ). name_taken k n seen x)) ≡ some s'
+          → cond b (end_taken k n seen) (and_then (bytes_in term_word l) (λ (x : List ℕ). name_taken k n seen x)) ≡ Some s'
           → NotedIn notes' s'
       go true e =
           subst (NotedIn notes')
           (provided_some (eqb (length seen) k && eqb (total_of seen) n) (nothing seen) s' e).1 tt
       go false e = name e
   noted-on (a_length k n seen x) s' G H R D e =
-      let y = then_some (number_in len_word l) (λ (len : ℕ). some (some_bytes k n seen x len)) s' e in
+      let y = then_some (number_in len_word l) (λ (len : ℕ). Some (some_bytes k n seen x len)) s' e in
       let q : some_bytes k n seen x y.0 ≡ s' = cc in
       subst (NotedIn notes') q (each-grows notes notes' seen G D.0, G (note_of (line_of x)) D.1)
   noted-on (some_bytes k n seen x len) s' G H R D e =
@@ -234,24 +252,24 @@ module _ (t l : List ℕ) (L : Lines) (p : Progress) (notes : List ℕ) (maybe :
 
   -- and the reading goes on
   pub notes_on : (q : Progress) → Notes t p notes (ended l L) → out maybe notes' ≡ noted_of notes p l
-      → line_counted t p l ≡ Good q → Notes t q notes' L
-  notes_on q N o g = which (ℕ_discrete p.expected 3)
+      → line_counted t p l ≡ Some q → Notes t q notes' L
+  notes_on q N o g = which (is_it_lane p.expected)
     where
       onward : length notes' ≡ length notes → Grows notes notes'
-          → (p.expected ≡ 3 → marked notes' (note_of l) ≡ true) → (r : Option Expects) → line_read N.state l ≡ r
-          → LineRel t r (Good q) L → Notes t q notes' L
-      onward z G H none e R = absurd R
-      onward z G H (some s') e R = record {
+          → (p.expected ≡ ToLane → marked notes' (note_of l) ≡ true) → (r : Option Expects) → line_read N.state l ≡ r
+          → LineRel t r (Some q) L → Notes t q notes' L
+      onward z G H None e R = absurd R
+      onward z G H (Some s') e R = record {
         size = z ∙ N.size;
         state = s';
         rel = R;
         noted = noted-on N.state s' G H N.rel N.noted e;
       }
 
-      related : LineRel t (line_read N.state l) (Good q) L
-      related = subst (λ (x : Line). LineRel t (line_read N.state l) x L) g (line-rel t l L N.state p N.rel)
+      related : LineRel t (line_read N.state l) (Some q) L
+      related = subst (λ (x : Option Progress). LineRel t (line_read N.state l) x L) g (line-rel t l L N.state p N.rel)
 
-      which : Dec (p.expected ≡ 3) → Notes t q notes' L
+      which : Dec (p.expected ≡ ToLane) → Notes t q notes' L
       which (yes e) =
           let M = noted-three e N.size o in
           onward M.size M.grows (λ z. M.here) (line_read N.state l) refl related
@@ -263,21 +281,21 @@ module _ (t l : List ℕ) (L : Lines) (p : Progress) (notes : List ℕ) (maybe :
 -- ---- the code of a note
 
 module _ (notes : List ℕ) (p : Progress) (l : List ℕ) where
-  pub note_elsewhere : (p.expected ≡ 3 → ⊥) → out true notes ≡ noted_of notes p l
+  pub note_elsewhere : (p.expected ≡ ToLane → ⊥) → out true notes ≡ noted_of notes p l
   unfolding noted_of
-  note_elsewhere e = rw (ne_eqb p.expected 3 e)
+  note_elsewhere e = rw (not_lane p.expected e)
 
-  pub note_here : (hash : ℕ) (o : Out) → p.expected ≡ 3 → hash ≡ murmur_hash2 0 l → o ≡ mark_one notes (hash % 524288)
+  pub note_here : (hash : ℕ) (o : Out) → p.expected ≡ ToLane → hash ≡ murmur_hash2 0 l → o ≡ mark_one notes (hash % 524288)
       → o ≡ noted_of notes p l
   unfolding noted_of note_of
   note_here hash o e h q = q ∙ rw (e, h)
 
 -- what was vouched for, of a line in which a name was read
 pub vouched-name : (maybe : Bool) (t : List ℕ) (p : Progress) (l : List ℕ) (n : ℕ) → Vouched maybe t p l
-    → hexed_of (bytes_in term_word l) ≡ Bytes n → maybe ≡ false → seen_among p.lanes l t (first_lane t) ≡ false
+    → Some n ≡ option_map length (bytes_in term_word l) → maybe ≡ false → seen_among p.lanes l t (first_lane t) ≡ false
 vouched-name maybe t p l n W e m = go (bytes_in term_word l) refl e
   where
-    go : (o : Option (List ℕ)) → bytes_in term_word l ≡ o → hexed_of o ≡ Bytes n
+    go : (o : Option (List ℕ)) → bytes_in term_word l ≡ o → Some n ≡ option_map length o
         → seen_among p.lanes l t (first_lane t) ≡ false
-    go none q e = let z : ◌≡◌ {A = ℕ} 0 1 = cc in absurd (omega arith)
-    go (some x) q e = W m x q
+    go None q e = let z : ◌≡◌ {A = ℕ} 0 1 = cc in absurd (omega arith)
+    go (Some x) q e = W m x q

@@ -1,29 +1,24 @@
 -- Laws of a lane's parts. Assumes nothing.
 use Prim.Native.Nat.{ℕ, zero, suc, ◌+◌, ◌-◌, ◌≤◌, ◌<◌}
 use mathlib.Core.Path.{◌≡◌, refl, sym, ap, ◌∙◌, subst}
-use mathlib.Core.Bool.{Bool, true, false, cond}
-use mathlib.Core.Option.{some}
+use Rattle.std.specs.Prelude.{Some, None, Ok, Err}
 use mathlib.Core.List.{List, [], ◌∷◌, ◌++◌}
 use native.Mathlib.Omega.{arith}
-use lib.Dec.{ltb}
 use lib.ListN.{length, take, drop, length-append}
 use lib.Seq.{take_all, drop-append_seam}
 use borrow.Author.Tests.{lt-ltb, le-ltb}
-use Rattle.limits.specs.Refusals.{unreporting, permitted}
 use Rattle.spans.specs.Span.{read_span}
 use Rattle.spans.proofs.Laws.{span_within}
 use Rattle.report_text.specs.Text.{Lane, term_word, bytes_word, hex}
 use Rattle.report_text.specs.Reader.{Told, lanes, bad, bytes_in, bytes_of, text_read}
 use Rattle.report_text.proofs.Values.{hex_back}
 use Rattle.report_text.proofs.Forms.{bytes_form}
-use Rattle.report_read.specs.declared.check.Checked.TheVariants.{Lanes, Refused}
-use Rattle.report_read.specs.declared.pick.Picked.{Picked}
-use Rattle.report_read.specs.declared.pick.Picked.TheVariants.{Lane as Places, NoSuchLane, Unread}
+use Rattle.report_read.specs.declared.check.Lanes.{Lanes}
+use Rattle.report_read.specs.declared.check.BadLine.{BadLine}
 use Rattle.report_read.specs.Lines.{line_length, line_end, line_at, next_line, next_lane, lanes_on, first_lane}
 use Rattle.report_read.specs.Counted.{checked_of}
-use Rattle.report_read.specs.Lane.{bytes_line, parts_at, on_told, lane_of}
+use Rattle.report_read.specs.Lane.{bytes_line, places, parts_at, on_told, lane_of}
 use Rattle.report_read.specs.Pick.{PartsIn}
-use Rattle.report_read.specs.Said.{said_picked}
 use Rattle.report_read.specs.Promises.{Parts}
 use Rattle.report_read.proofs.Lines.{line-in, line-long, next-in}
 use Rattle.report_read.proofs.Counted.{OneLane, LanesAt, lanes_stand}
@@ -31,13 +26,13 @@ use Rattle.report_read.proofs.Counted.{OneLane, LanesAt, lanes_stand}
 -- ---- what stands behind a word
 
 -- the length of a line of a word and a value
-word_fits : (t : List ℕ) (at : ℕ) (w bs : List ℕ) → bytes_in w (line_at t at) ≡ some bs
+word_fits : (t : List ℕ) (at : ℕ) (w bs : List ℕ) → bytes_in w (line_at t at) ≡ Some bs
     → line_length (drop at t) ≡ length w + length (hex bs)
 word_fits t at w bs e =
     sym (line-long t at) ∙ ap length (bytes_form w (line_at t at) bs e).0 ∙ length-append w (hex bs)
 
-value_part : (t : List ℕ) (at : ℕ) (w bs : List ℕ) → bytes_in w (line_at t at) ≡ some bs
-    → bytes_of (read_span (at + length w) (line_length (drop at t) - length w) t) ≡ some bs
+value_part : (t : List ℕ) (at : ℕ) (w bs : List ℕ) → bytes_in w (line_at t at) ≡ Some bs
+    → bytes_of (read_span (at + length w) (line_length (drop at t) - length w) t) ≡ Some bs
 unfolding read_span
 value_part t at w bs e =
     let q = bytes_form w (line_at t at) bs e in
@@ -58,7 +53,7 @@ module _ {t : List ℕ} {at : ℕ} {a : Lane} (o : OneLane t at a) where
     bytes_fits = omega (arith, word_fits t (bytes_line t at) bytes_word a.bytes o.bytes);
   }
 
-  parts_are : (i : ℕ) → lane_of t i ≡ parts_at t at → Parts t i a
+  parts_are : (i : ℕ) → lane_of t i ≡ Ok (Some (parts_at t at)) → Parts t i a
   unfolding parts_at
   parts_are i e =
       let f = parts_in in
@@ -94,15 +89,15 @@ lane-behind t at [] a behind f = f.0
 lane-behind t at (b ∷ before) a behind f = lane-behind t (next_lane t at) before a behind f.1
 
 index_in : (t : List ℕ) (ls : List Lane) (i : ℕ) → text_read t ≡ lanes ls → i < length ls
-    → lane_of t i ≡ parts_at t (lanes_on i t (first_lane t))
+    → lane_of t i ≡ Ok (Some (parts_at t (lanes_on i t (first_lane t))))
 unfolding lane_of
 index_in t ls i e h = ap (λ (r : Told). on_told r t i) e ∙ rw (lt-ltb i (length ls) h)
 
-pub lane_none : (t : List ℕ) (ls : List Lane) (i : ℕ) → text_read t ≡ lanes ls → length ls ≤ i → lane_of t i ≡ NoSuchLane
+pub lane_none : (t : List ℕ) (ls : List Lane) (i : ℕ) → text_read t ≡ lanes ls → length ls ≤ i → lane_of t i ≡ Ok None
 unfolding lane_of
 lane_none t ls i e h = ap (λ (r : Told). on_told r t i) e ∙ rw (le-ltb i (length ls) h)
 
-lane_unread : (t : List ℕ) (i n : ℕ) → text_read t ≡ bad n → lane_of t i ≡ Unread 15 n
+lane_unread : (t : List ℕ) (i n : ℕ) → text_read t ≡ bad n → lane_of t i ≡ Err (record { line = n })
 unfolding lane_of
 lane_unread t i n e = ap (λ (r : Told). on_told r t i) e
 
@@ -115,54 +110,38 @@ lane_is t before a behind e =
 
 -- ---- the code's ways
 
-fair : (r : Told) (t : List ℕ) (i : ℕ) → permitted unreporting (said_picked (on_told r t i)) ≡ true
-unfolding parts_at
-fair (lanes ls) t i = go (ltb i (length ls))
-  where
-    go : (b : Bool) → permitted unreporting (said_picked (cond b (parts_at t (lanes_on i t (first_lane t))) NoSuchLane))
-        ≡ true
-    go true = refl
-    go false = refl
-fair (bad n) t i = refl
-
-pub told : (t : List ℕ) (i : ℕ) (r : Picked) → r ≡ lane_of t i
-    → (r ≡ lane_of t i) × (permitted unreporting (said_picked r) ≡ true)
-unfolding lane_of
-told t i r e = (e, ap (λ (x : Picked). permitted unreporting (said_picked x)) e ∙ fair (text_read t) t i)
-
-module _ (t : List ℕ) (i n bytes : ℕ) (e : Lanes n bytes ≡ checked_of (text_read t)) where
+module _ (t : List ℕ) (i : ℕ) (c : Lanes) (e : Ok c ≡ checked_of (text_read t)) where
   -- what a check that told lanes has read
   abbrev Read : Type 0
-  Read = (ls : List Lane) × (text_read t ≡ lanes ls) × (length ls ≡ n)
+  Read = (ls : List Lane) × (text_read t ≡ lanes ls) × (length ls ≡ c.lanes)
 
   read : Read
   read = go (text_read t) refl e
     where
-      go : (r : Told) → text_read t ≡ r → Lanes n bytes ≡ checked_of r → Read
+      go : (r : Told) → text_read t ≡ r → Ok c ≡ checked_of r → Read
       go (lanes ls) p e = (ls, p, cc)
       go (bad k) p e = let z : ◌≡◌ {A = ℕ} 0 1 = cc in absurd (omega arith)
 
-  pub pick_parts : i < n → (at : ℕ) → at ≡ lanes_on i t (first_lane t) → PartsIn t at
+  pub pick_parts : i < c.lanes → (at : ℕ) → at ≡ lanes_on i t (first_lane t) → PartsIn t at
   pick_parts h at p =
       let r = read in
       let o = lane_there t (first_lane t) r.0 i (lanes_stand t r.0 r.1) (omega (arith, r.2)) in
       subst (PartsIn t) (sym p) (parts_in o.1)
 
-  pub pick_found : i < n → (at : ℕ) → at ≡ lanes_on i t (first_lane t) → parts_at t at ≡ lane_of t i
-  pick_found h at p = let r = read in ap (parts_at t) p ∙ sym (index_in t r.0 i r.1 (omega (arith, r.2)))
+  pub pick_found : i < c.lanes → (at : ℕ) → at ≡ lanes_on i t (first_lane t) → Ok (Some (parts_at t at)) ≡ lane_of t i
+  pick_found h at p =
+      let r = read in
+      ap (λ (n : ℕ). Ok (Some (parts_at t n))) p ∙ sym (index_in t r.0 i r.1 (omega (arith, r.2)))
 
-  pub pick_none : n ≤ i → NoSuchLane ≡ lane_of t i
+  pub pick_none : c.lanes ≤ i → Ok None ≡ lane_of t i
   pick_none h = let r = read in sym (lane_none t r.0 i r.1 (omega (arith, r.2)))
 
-pub pick_unread : (t : List ℕ) (i n line : ℕ) → Refused n line ≡ checked_of (text_read t) → Unread n line ≡ lane_of t i
-pick_unread t i n line e = go (text_read t) refl e
+pub pick_unread : (t : List ℕ) (i : ℕ) (b : BadLine) → Err b ≡ checked_of (text_read t) → Err b ≡ lane_of t i
+pick_unread t i b e = go (text_read t) refl e
   where
-    go : (r : Told) → text_read t ≡ r → Refused n line ≡ checked_of r → Unread n line ≡ lane_of t i
+    go : (r : Told) → text_read t ≡ r → Err b ≡ checked_of r → Err b ≡ lane_of t i
     go (lanes ls) p e = let z : ◌≡◌ {A = ℕ} 0 1 = cc in absurd (omega arith)
-    go (bad k) p e =
-        let a : n ≡ 15 = cc in
-        let b : line ≡ k = cc in
-        (λ j. Unread (a j) (b j)) ∙ sym (lane_unread t i k p)
+    go (bad k) p e = let q : b ≡ record { line = k } = cc in ap Err q ∙ sym (lane_unread t i k p)
 
 -- ---- the code's places
 
@@ -183,11 +162,11 @@ module _ (t : List ℕ) (at : ℕ) where
       let r : e ≡ line_end t (bytes_line t at) = q ∙ ap (line_end t) p in omega (arith, f.bytes_fits)
 
   pub parts-found : (e b d : ℕ) → e ≡ line_end t at → b ≡ bytes_line t at → d ≡ line_end t b
-      → Places (at + 5) (e - (at + 5)) (b + 6) (d - (b + 6)) ≡ parts_at t at
+      → places (at + 5) (e - (at + 5)) (b + 6) (d - (b + 6)) ≡ parts_at t at
   unfolding parts_at
   parts-found e b d p q r =
       let v = bytes_line t at in
       let x : e - (at + 5) ≡ line_length (drop at t) - 5 = omega arith in
       let s : d ≡ line_end t v = r ∙ ap (line_end t) q in
       let y : d - (b + 6) ≡ line_length (drop v t) - 6 = omega arith in
-      λ i. Places (at + 5) (x i) (q i + 6) (y i)
+      λ i. places (at + 5) (x i) (q i + 6) (y i)

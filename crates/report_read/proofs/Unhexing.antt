@@ -2,7 +2,7 @@
 use Prim.Native.Nat.{ℕ, zero, suc, ◌+◌, ◌-◌, ◌*◌, ◌/◌, ◌%◌, ◌≤◌, ◌<◌}
 use mathlib.Core.Path.{◌≡◌, refl, sym, ap, ◌∙◌}
 use mathlib.Core.Bool.{Bool, true, false, cond, ◌&&◌, ◌||◌}
-use mathlib.Core.Option.{Option, none, some}
+use Rattle.std.specs.Prelude.{Option, None, Some, Ok, Err, option_map}
 use mathlib.Core.List.{List, [], ◌∷◌}
 use native.Mathlib.Numerals.{add-one}
 use native.Mathlib.Omega.{arith}
@@ -10,18 +10,13 @@ use lib.Dec.{leb, eqb}
 use lib.ListN.{length, take, get_or, set}
 use lib.Seq.{take_all}
 use borrow.Author.Tests.{le-leb, lt-leb, leb-true}
-use Rattle.limits.specs.Refusals.{unhexing, permitted}
 use Rattle.numbers.proofs.Tests.{both}
 use Rattle.spans.specs.Span.{overwrite}
 use Rattle.spans.proofs.Laws.{length-overwrite, overwrite_none, copy_turn}
 use Rattle.report_text.specs.Reader.{is_digit, is_hex, hex_value, byte_before, bytes_of}
-use Rattle.report_text.specs.declared.fields.Hexed.TheVariants.{Bytes as Some, NoBytes}
-use Rattle.report_text.specs.Values.{hexed_of, all_hex, hex_text}
+use Rattle.report_text.specs.Values.{all_hex, hex_text}
 use Rattle.report_text.proofs.Words.{hexed_is}
-use Rattle.report_read.specs.declared.unhex.Unhexed.{Unhexed}
-use Rattle.report_read.specs.declared.unhex.Unhexed.TheVariants.{Bytes, NoHex, Short}
-use Rattle.report_read.specs.Unhex.{byte_in, or_none, Out, out, on_hex, unhex_of}
-use Rattle.report_read.specs.Said.{said_unhexed}
+use Rattle.report_read.specs.Unhex.{byte_in, or_none, out, too_short, on_hex, unhex_of}
 
 -- ---- digits
 
@@ -73,23 +68,23 @@ hex-at cs i e h = all-at cs i (go (eqb (length cs % 2) 0) e) h
 -- ---- bytes
 
 -- what hex stands for, and how much it is
-pub stands : (cs : List ℕ) → hex_text cs ≡ true → (bytes_of cs ≡ some (or_none (bytes_of cs)))
+pub stands : (cs : List ℕ) → hex_text cs ≡ true → (bytes_of cs ≡ Some (or_none (bytes_of cs)))
     × (length (or_none (bytes_of cs)) ≡ length cs / 2)
 stands cs e = go (bytes_of cs) (hexed_is cs ∙ rw e)
   where
-    go : (o : Option (List ℕ)) → hexed_of o ≡ Some (length cs / 2) → (o ≡ some (or_none o))
+    go : (o : Option (List ℕ)) → option_map length o ≡ Some (length cs / 2) → (o ≡ Some (or_none o))
         × (length (or_none o) ≡ length cs / 2)
-    go none f = let z : ◌≡◌ {A = ℕ} 0 1 = cc in absurd (omega arith)
-    go (some bs) f = (refl, cc)
+    go None f = let z : ◌≡◌ {A = ℕ} 0 1 = cc in absurd (omega arith)
+    go (Some bs) f = (refl, cc)
 
-pub stands_not : (cs : List ℕ) → hex_text cs ≡ false → bytes_of cs ≡ none
+pub stands_not : (cs : List ℕ) → hex_text cs ≡ false → bytes_of cs ≡ None
 stands_not cs e = go (bytes_of cs) (hexed_is cs ∙ rw e)
   where
-    go : (o : Option (List ℕ)) → hexed_of o ≡ NoBytes → o ≡ none
-    go none f = refl
-    go (some bs) f = let z : ◌≡◌ {A = ℕ} 0 1 = cc in absurd (omega arith)
+    go : (o : Option (List ℕ)) → option_map length o ≡ None → o ≡ None
+    go None f = refl
+    go (Some bs) f = let z : ◌≡◌ {A = ℕ} 0 1 = cc in absurd (omega arith)
 
-byte_is : (cs bs : List ℕ) (i : ℕ) → bytes_of cs ≡ some bs → i < length bs → get_or bs i 0 ≡ byte_in cs i
+byte_is : (cs bs : List ℕ) (i : ℕ) → bytes_of cs ≡ Some bs → i < length bs → get_or bs i 0 ≡ byte_in cs i
 unfolding bytes_of
 byte_is [] bs i e h = let z : bs ≡ [] = cc in let k : length bs ≡ 0 = ap length z in absurd (omega arith)
 byte_is (c ∷ []) bs i e h = let z : ◌≡◌ {A = ℕ} 0 1 = cc in absurd (omega arith)
@@ -105,10 +100,10 @@ byte_is (c ∷ d ∷ cs) bs i e h = go (is_hex c && is_hex d) (bytes_of cs) (byt
         ∙ (λ i. 16 * hex_value (get_or (c ∷ d ∷ cs) (sym p i) 0) + hex_value (get_or (c ∷ d ∷ cs) (sym q i) 0))
 
     go : (t : Bool) (o : Option (List ℕ))
-        → ((ds : List ℕ) (k : ℕ) → o ≡ some ds → k < length ds → get_or ds k 0 ≡ byte_in cs k)
-        → cond t (byte_before (16 * hex_value c + hex_value d) o) none ≡ some bs → get_or bs i 0 ≡ byte_in (c ∷ d ∷ cs) i
-    go true none f e = let z : ◌≡◌ {A = ℕ} 0 1 = cc in absurd (omega arith)
-    go true (some ds) f e =
+        → ((ds : List ℕ) (k : ℕ) → o ≡ Some ds → k < length ds → get_or ds k 0 ≡ byte_in cs k)
+        → cond t (byte_before (16 * hex_value c + hex_value d) o) None ≡ Some bs → get_or bs i 0 ≡ byte_in (c ∷ d ∷ cs) i
+    go true None f e = let z : ◌≡◌ {A = ℕ} 0 1 = cc in absurd (omega arith)
+    go true (Some ds) f e =
         let z : bs ≡ (16 * hex_value c + hex_value d) ∷ ds = cc in
         ap (λ (l : List ℕ). get_or l i 0) z ∙ at ds i (λ k. f ds k refl) (omega (arith, ap length z))
     go false o f e = let z : ◌≡◌ {A = ℕ} 0 1 = cc in absurd (omega arith)
@@ -147,22 +142,7 @@ unhexing-ends {cs} {m} {o} {i} U e h =
 
 -- ---- the call
 
-fair : (o : Option (List ℕ)) (m : List ℕ) → permitted unhexing (said_unhexed (on_hex o m).answer) ≡ true
-fair none m = refl
-fair (some bs) m = go (leb (length bs) (length m))
-  where
-    go : (b : Bool)
-        → permitted unhexing (said_unhexed
-        (cond b (out (Bytes (length bs)) (overwrite 0 bs m)) (out (Short 8 (length bs)) m)).answer) ≡ true
-    go true = refl
-    go false = refl
-
-pub told : (cs m : List ℕ) (r : Unhexed) (o : List ℕ) → out r o ≡ unhex_of cs m
-    → (out r o ≡ unhex_of cs m) × (permitted unhexing (said_unhexed r) ≡ true)
-unfolding unhex_of
-told cs m r o e = (e, ap (λ (x : Out). permitted unhexing (said_unhexed x.answer)) e ∙ fair (bytes_of cs) m)
-
-pub unhex_none : (cs m : List ℕ) → hex_text cs ≡ false → out NoHex m ≡ unhex_of cs m
+pub unhex_none : (cs m : List ℕ) → hex_text cs ≡ false → out (Ok None) m ≡ unhex_of cs m
 unfolding unhex_of
 unhex_none cs m e = sym (ap (λ (o : Option (List ℕ)). on_hex o m) (stands_not cs e))
 
@@ -173,16 +153,16 @@ module _ (cs m : List ℕ) (n : ℕ) (e : hex_text cs ≡ true) (k : n ≡ lengt
   long : length bs ≡ n
   long = (stands cs e).1 ∙ sym k
 
-  pub unhex_short : length m < n → out (Short 8 n) m ≡ unhex_of cs m
+  pub unhex_short : length m < n → out (Err (too_short n)) m ≡ unhex_of cs m
   unfolding unhex_of
   unhex_short h =
-      ap (λ (x : ℕ). out (Short 8 x) m) (sym long)
+      ap (λ (x : ℕ). out (Err (too_short x)) m) (sym long)
       ∙ sym (ap (λ (o : Option (List ℕ)). on_hex o m) (stands cs e).0
       ∙ rw (lt-leb (length bs) (length m) (omega (arith, long))))
 
-  pub unhex_done : n ≤ length m → (o : List ℕ) → o ≡ overwrite 0 bs m → out (Bytes n) o ≡ unhex_of cs m
+  pub unhex_done : n ≤ length m → (o : List ℕ) → o ≡ overwrite 0 bs m → out (Ok (Some n)) o ≡ unhex_of cs m
   unfolding unhex_of
   unhex_done h o f =
-      (λ i. out (Bytes (sym long i)) (f i))
+      (λ i. out (Ok (Some (sym long i))) (f i))
       ∙ sym (ap (λ (o : Option (List ℕ)). on_hex o m) (stands cs e).0
       ∙ rw (le-leb (length bs) (length m) (omega (arith, long))))

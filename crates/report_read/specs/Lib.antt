@@ -1,5 +1,4 @@
 pub mod Lines
-pub mod Places
 pub mod Counted
 pub mod Noted
 pub mod Unhex

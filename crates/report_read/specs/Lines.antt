@@ -1,6 +1,6 @@
 -- RULES AA11. Lines and lanes of a text by their places, as the code goes through them.
 use Rattle.std.specs.Prelude.{ℕ, zero, suc, ◌+◌, ◌-◌, ◌*◌, cond, List, [], ◌∷◌, ltb, eqb, length, take, drop}
-use Rattle.std.proofs.Math.Option.{Option, none, some}
+use Rattle.std.specs.Prelude.{Option, None, Some}
 use Rattle.report_text.specs.Text.{newline, len_word}
 use Rattle.report_text.specs.Reader.{number_in}
 
@@ -28,8 +28,8 @@ ahead t at n = cond (ltb (length t - at) n) (length t) (at + n)
 
 -- RULES AA11. A number, or 0.
 abbrev pub or_zero : Option ℕ → ℕ
-or_zero none = 0
-or_zero (some n) = n
+or_zero None = 0
+or_zero (Some n) = n
 
 -- RULES AA11. The length that a lane's len= line tells.
 unfoldable pub length_told : List ℕ → ℕ → ℕ

@@ -1,6 +1,6 @@
 // The reader of the shift report (document 02, One): any bytes to how many lanes there are and their bytes, or refusal
-// 15 with the first bad line; and a lane of a checked text by its index, as parts of the text,
-// and the bytes that such a part stands for.
+// 15 with the first bad line; and a lane of a checked text by its index, as parts of the text, and the bytes that such a
+// part stands for.
 //
 // Each promises, for any bytes, what `text_read` of report_text says, the definition of reading. It goes line by line
 // and keeps no lane: to find a name that was seen before it goes from lane to lane over the text again, where its notes
@@ -11,28 +11,28 @@ pub mod check;
 pub mod pick;
 pub mod unhex;
 
-ghost use Rattle.std.specs.Prelude.{◌≡◌, ◌+◌, ◌*◌, ◌≤◌, length};
-ghost use Rattle.report_text.specs.Values.{decimal_of};
-ghost use Rattle.report_read.specs.Lines.{line_end, next_line, ahead, or_zero, next_lane, lanes_on, first_lane};
-ghost use Rattle.report_read.specs.Places.{number_told};
-
-use report_text::fields::Decimal;
+ghost use Rattle.std.specs.Prelude.{◌≡◌, ◌+◌, ◌*◌, ◌≤◌, ◌==◌, length, position};
+ghost use Rattle.report_text.specs.Text.{newline};
+ghost use Rattle.report_read.specs.Lines.{line_end, next_line, ahead, next_lane, lanes_on, first_lane};
 
 // ---- what the calls share: where lines and lanes begin and end
+
+// Where the first newline is, or none.
+fn newline(text: &[u8]) -> Option<usize>
+    ensures { result ≡ position (λ b. b == newline) text.now }
+{
+    text.iter().position(|b| *b == b'\n')
+}
 
 // Where the line from a place ends: at its newline, or at the text's end.
 fn line_end(text: &[u8], from: usize) -> usize
     requires { from ≤ length text.now }
     ensures { (result ≡ line_end text.now from) × (result ≤ length text.now) }
 {
-    let mut i = from;
-    while i < text.len() {
-        if text[i] == 10 {
-            return i;
-        }
-        i += 1;
+    match newline(&text[from..]) {
+        Some(n) => from + n,
+        None => text.len(),
     }
-    i
 }
 
 // Where the next line begins.
@@ -45,15 +45,6 @@ fn next_line(text: &[u8], from: usize) -> usize
         return e + 1;
     }
     e
-}
-
-fn number_or_zero(d: Decimal) -> u64
-    ensures { result ≡ number_told d }
-{
-    match d {
-        Decimal::Number(n) => n,
-        Decimal::NoNumber => 0,
-    }
 }
 
 // Seven bytes and twice n on, or the text's end.
@@ -81,9 +72,8 @@ fn next_lane(text: &[u8], from: usize) -> usize
     let a = next_line(text, from);
     let e = line_end(text, a);
     let b = next_line(text, a);
-    let d = report_text::fields::number_in(&text[a..e], b"len=");
-    let n = number_or_zero(d);
-    go_ahead(text, b, n)
+    let told = report_text::fields::number_in(&text[a..e], b"len=");
+    go_ahead(text, b, told.unwrap_or(0))
 }
 
 // Where the first lane begins: behind three lines.
@@ -101,10 +91,8 @@ fn lane_start(text: &[u8], index: u64) -> usize
         × (result ≤ length text.now) }
 {
     let mut at = first_lane(text);
-    let mut left = index;
-    while 0 < left {
+    for _ in 0..index {
         at = next_lane(text, at);
-        left -= 1;
     }
     at
 }

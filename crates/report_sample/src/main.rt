@@ -5,10 +5,8 @@
 
 ghost use Rattle.std.specs.Prelude.{◌≤◌, ◌<◌, length};
 
+use limits::Refusal;
 use report::Reported;
-use report_read::check::Checked;
-use report_read::pick::Picked;
-use report_read::unhex::Unhexed;
 use store_append::Appended;
 use store_state::State;
 
@@ -28,14 +26,17 @@ fn say_two(word: &[u8], a: u64, b: u64) {
     say(b"\n");
 }
 
+fn say_refused(why: Refusal, told: u64) {
+    say_two(b"refused", u64::from(why.number()), told);
+}
+
 fn tell_check(text: &[u8]) {
-    let c = report_read::check::check(text);
-    match c {
-        Checked::Lanes(lanes, bytes) => {
-            say_two(b"lanes", lanes, bytes);
+    match report_read::check::check(text) {
+        Ok(read) => {
+            say_two(b"lanes", read.lanes, read.bytes);
         }
-        Checked::Refused(k, n) => {
-            say_two(b"refused", k as u64, n);
+        Err(bad) => {
+            say_refused(Refusal::NoReport, bad.line);
         }
     }
 }
@@ -60,16 +61,15 @@ fn tell_bytes(text: &[u8], from: usize, n: usize) {
     if from <= text.len() {
         if n <= text.len() - from {
             let to = from + n;
-            let u = report_read::unhex::unhex(&text[from..to], &mut room);
-            match u {
-                Unhexed::Bytes(k) => {
+            match report_read::unhex::unhex(&text[from..to], &mut room) {
+                Ok(Some(k)) => {
                     say_bytes(k, room[0]);
                 }
-                Unhexed::NoHex => {
+                Ok(None) => {
                     say(b"no hex\n");
                 }
-                Unhexed::Short(k, needed) => {
-                    say_two(b"refused", k as u64, needed);
+                Err(short) => {
+                    say_refused(Refusal::OutputTooShort, short.needed);
                 }
             }
         }
@@ -77,21 +77,20 @@ fn tell_bytes(text: &[u8], from: usize, n: usize) {
 }
 
 fn tell_lane(text: &[u8], index: u64) {
-    let p = report_read::pick::pick_lane(text, index);
-    match p {
-        Picked::Lane(name, k, bytes, n) => {
+    match report_read::pick::pick_lane(text, index) {
+        Ok(Some(lane)) => {
             say(b"lane ");
-            say_part(text, name, k);
+            say_part(text, lane.name, lane.name_length);
             say(b" ");
-            say_part(text, bytes, n);
+            say_part(text, lane.bytes, lane.bytes_length);
             say(b"\n");
-            tell_bytes(text, bytes, n);
+            tell_bytes(text, lane.bytes, lane.bytes_length);
         }
-        Picked::NoSuchLane => {
+        Ok(None) => {
             say(b"no such lane\n");
         }
-        Picked::Unread(k, line) => {
-            say_two(b"refused", k as u64, line);
+        Err(bad) => {
+            say_refused(Refusal::NoReport, bad.line);
         }
     }
 }

@@ -3,8 +3,6 @@
 // What is said of the bytes is proved of `report_read::check::check`; that it is printed isn't.
 #![tactic(auto)]
 
-use report_read::check::Checked;
-
 // The descriptor of standard output.
 const STDOUT_FILENO: i32 = 1;
 
@@ -14,14 +12,13 @@ pub fn say(text: &[u8]) {
 
 // The line of a text that was read whole.
 pub fn tell(text: &[u8]) {
-    let c = report_read::check::check(text);
-    match c {
-        Checked::Lanes(_, _) => {
+    match report_read::check::check(text) {
+        Ok(_) => {
             say(b"ok\n");
         }
-        Checked::Refused(_, n) => {
+        Err(bad) => {
             say(b"bad ");
-            io::print_decimal(STDOUT_FILENO, n);
+            io::print_decimal(STDOUT_FILENO, bad.line);
             say(b"\n");
         }
     }

@@ -3,7 +3,7 @@
 use Prim.Native.Nat.{ℕ, suc, ◌^◌, ◌<◌}
 use mathlib.Core.Path.{◌≡◌, refl, sym, ap, ◌∙◌, subst}
 use mathlib.Core.Bool.{Bool, true, false, cond, ◌&&◌, not}
-use mathlib.Core.Option.{Option, none, some}
+use Rattle.std.specs.Prelude.{Option, None, Some}
 use mathlib.Core.List.{List, [], ◌∷◌, ◌++◌, append_assoc, append-nil}
 use native.Mathlib.Omega.{arith}
 use lib.Dec.{leb, eqb}
@@ -93,7 +93,7 @@ Due (nothing seen) ls t = (t ≡ []) × (ls ≡ seen)
 in-front : (w v l t u : List ℕ) → l ≡ w ++ v → t ≡ u → l ++ (newline ∷ t) ≡ line w v ++ u
 in-front w v l t u p q = (λ i. p i ++ (newline ∷ q i)) ∙ sym (line_text w v u)
 
-store-due : (l t : List ℕ) (s : Expects) (ls : List Lane) → line_read a_store l ≡ some s → Due s ls t
+store-due : (l t : List ℕ) (s : Expects) (ls : List Lane) → line_read a_store l ≡ Some s → Due s ls t
     → Due a_store ls (l ++ (newline ∷ t))
 unfolding line_read report_text head_text
 store-due l t s ls e d = go (equal_bytes l store_line) refl e
@@ -108,28 +108,28 @@ store-due l t s ls e d = go (equal_bytes l store_line) refl e
           d.1,
         )
 
-    go : (b : Bool) → equal_bytes l store_line ≡ b → provided b a_terms ≡ some s → Due a_store ls (l ++ (newline ∷ t))
+    go : (b : Bool) → equal_bytes l store_line ≡ b → provided b a_terms ≡ Some s → Due a_store ls (l ++ (newline ∷ t))
     go true p e =
         let q : a_terms ≡ s = cc in
         head (equal_true l store_line p) (subst (λ (x : Expects). Due x ls t) (sym q) d)
     go false p e = let z : ◌≡◌ {A = ℕ} 0 1 = cc in absurd (omega arith)
 
 -- a step after another gave something: so did both
-pub then_some : {A B : Type 0} (o : Option A) (f : A → Option B) (s : B) → and_then o f ≡ some s
-    → (x : A) × (o ≡ some x) × (f x ≡ some s)
-then_some none f s e = let z : ◌≡◌ {A = ℕ} 0 1 = cc in absurd (omega arith)
-then_some (some x) f s e = (x, refl, e)
+pub then_some : {A B : Type 0} (o : Option A) (f : A → Option B) (s : B) → and_then o f ≡ Some s
+    → (x : A) × (o ≡ Some x) × (f x ≡ Some s)
+then_some None f s e = let z : ◌≡◌ {A = ℕ} 0 1 = cc in absurd (omega arith)
+then_some (Some x) f s e = (x, refl, e)
 
 -- a test that gave something holds
-pub provided_some : (b : Bool) (r s : Expects) → provided b r ≡ some s → (b ≡ true) × (r ≡ s)
+pub provided_some : (b : Bool) (r s : Expects) → provided b r ≡ Some s → (b ≡ true) × (r ≡ s)
 provided_some true r s e = (refl, cc)
 provided_some false r s e = let z : ◌≡◌ {A = ℕ} 0 1 = cc in absurd (omega arith)
 
-terms_due : (l t : List ℕ) (s : Expects) (ls : List Lane) → line_read a_terms l ≡ some s → Due s ls t
+terms_due : (l t : List ℕ) (s : Expects) (ls : List Lane) → line_read a_terms l ≡ Some s → Due s ls t
     → Due a_terms ls (l ++ (newline ∷ t))
 unfolding line_read
 terms_due l t s ls e d =
-    let x = then_some (number_in terms_word l) (λ (k : ℕ). some (a_total k)) s e in
+    let x = then_some (number_in terms_word l) (λ (k : ℕ). Some (a_total k)) s e in
     let f = number_form terms_word l x.0 x.1 in
     let q : a_total x.0 ≡ s = cc in
     let d = subst (λ (y : Expects). Due y ls t) (sym q) d in
@@ -139,11 +139,11 @@ terms_due l t s ls e d =
       record { each = d.3.each; distinct = d.3.distinct; few = rw k f.1; small = d.2 },
     )
 
-total_due : (k : ℕ) (l t : List ℕ) (s : Expects) (ls : List Lane) → line_read (a_total k) l ≡ some s → Due s ls t
+total_due : (k : ℕ) (l t : List ℕ) (s : Expects) (ls : List Lane) → line_read (a_total k) l ≡ Some s → Due s ls t
     → Due (a_total k) ls (l ++ (newline ∷ t))
 unfolding line_read
 total_due k l t s ls e d =
-    let x = then_some (number_in total_word l) (λ (n : ℕ). some (a_lane k n [])) s e in
+    let x = then_some (number_in total_word l) (λ (n : ℕ). Some (a_lane k n [])) s e in
     let f = number_form total_word l x.0 x.1 in
     let q : a_lane k x.0 [] ≡ s = cc in
     let d = subst (λ (y : Expects). Due y ls t) (sym q) d in
@@ -159,7 +159,7 @@ total_due k l t s ls e d =
 
 -- the end, and a lane's name
 end-due : (k n : ℕ) (seen : List Lane) (l t : List ℕ) (s : Expects) (ls : List Lane) → l ≡ end_line
-    → end_taken k n seen ≡ some s → Due s ls t → Due (a_lane k n seen) ls (l ++ (newline ∷ t))
+    → end_taken k n seen ≡ Some s → Due s ls t → Due (a_lane k n seen) ls (l ++ (newline ∷ t))
 unfolding end_taken lanes_text
 end-due k n seen l t s ls p e d =
     let x = provided_some (eqb (length seen) k && eqb (total_of seen) n) (nothing seen) s e in
@@ -175,7 +175,7 @@ end-due k n seen l t s ls p e d =
     )
 
 name-due : (k n : ℕ) (seen : List Lane) (l t : List ℕ) (s : Expects) (ls : List Lane)
-    → and_then (bytes_in term_word l) (λ (name : List ℕ). name_taken k n seen name) ≡ some s → Due s ls t
+    → and_then (bytes_in term_word l) (λ (name : List ℕ). name_taken k n seen name) ≡ Some s → Due s ls t
     → Due (a_lane k n seen) ls (l ++ (newline ∷ t))
 unfolding name_taken lanes_text
 name-due k n seen l t s ls e d =
@@ -205,24 +205,24 @@ name-due k n seen l t s ls e d =
     )
 
 lane-due : (k n : ℕ) (seen : List Lane) (l t : List ℕ) (s : Expects) (ls : List Lane)
-    → line_read (a_lane k n seen) l ≡ some s → Due s ls t
+    → line_read (a_lane k n seen) l ≡ Some s → Due s ls t
     → Due (a_lane k n seen) ls (l ++ (newline ∷ t))
 unfolding line_read
 lane-due k n seen l t s ls e d = go (equal_bytes l end_line) refl e
   where
     go : (b : Bool) → equal_bytes l end_line ≡ b
         → cond b (end_taken k n seen) (and_then (bytes_in term_word l) (λ (name : List ℕ). name_taken k n seen name))
-        ≡ some s
+        ≡ Some s
         → Due (a_lane k n seen) ls (l ++ (newline ∷ t))
     go true p e = end-due k n seen l t s ls (equal_true l end_line p) e d
     go false p e = name-due k n seen l t s ls e d
 
 length-due : (k n : ℕ) (seen : List Lane) (name l t : List ℕ) (s : Expects) (ls : List Lane)
-    → line_read (a_length k n seen name) l ≡ some s → Due s ls t
+    → line_read (a_length k n seen name) l ≡ Some s → Due s ls t
     → Due (a_length k n seen name) ls (l ++ (newline ∷ t))
 unfolding line_read
 length-due k n seen name l t s ls e d =
-    let x = then_some (number_in len_word l) (λ (len : ℕ). some (some_bytes k n seen name len)) s e in
+    let x = then_some (number_in len_word l) (λ (len : ℕ). Some (some_bytes k n seen name len)) s e in
     let f = number_form len_word l x.0 x.1 in
     let q : some_bytes k n seen name x.0 ≡ s = cc in
     let d = subst (λ (y : Expects). Due y ls t) (sym q) d in
@@ -235,7 +235,7 @@ length-due k n seen name l t s ls e d =
     )
 
 bytes-due : (k n : ℕ) (seen : List Lane) (name : List ℕ) (len : ℕ) (l t : List ℕ) (s : Expects) (ls : List Lane)
-    → line_read (some_bytes k n seen name len) l ≡ some s → Due s ls t
+    → line_read (some_bytes k n seen name len) l ≡ Some s → Due s ls t
     → Due (some_bytes k n seen name len) ls (l ++ (newline ∷ t))
 unfolding line_read
 bytes-due k n seen name len l t s ls e d =
@@ -253,7 +253,7 @@ bytes-due k n seen name len l t s ls e d =
 
 -- ---- the whole text
 
-line-due : (s : Expects) (l t : List ℕ) (s' : Expects) (ls : List Lane) → line_read s l ≡ some s' → Due s' ls t
+line-due : (s : Expects) (l t : List ℕ) (s' : Expects) (ls : List Lane) → line_read s l ≡ Some s' → Due s' ls t
     → Due s ls (l ++ (newline ∷ t))
 unfolding line_read
 line-due a_store l t s' ls e d = store-due l t s' ls e d
@@ -286,8 +286,8 @@ all-due s n (ended l L) ls e = go (line_read s l) refl (λ s' f. all-due s' (suc
         → ((s' : Expects) → lines_read s' (suc n) L ≡ lanes ls → Due s' ls (text_of L))
         → or_bad o n (λ s'. lines_read s' (suc n) L) ≡ lanes ls
         → Due s ls (l ++ (newline ∷ text_of L))
-    go none p f e = told-apart n ls e
-    go (some s') p f e = line-due s l (text_of L) s' ls p (f s' e)
+    go None p f e = told-apart n ls e
+    go (Some s') p f e = line-due s l (text_of L) s' ls p (f s' e)
 
 -- what is accepted is the text of the lanes told, and a report can hold them
 pub only_text : (t : List ℕ) (ls : List Lane) → text_read t ≡ lanes ls → (t ≡ report_text ls) × Reportable ls

@@ -2,7 +2,7 @@
 use Prim.Native.Nat.{ℕ, suc, ◌+◌, ◌^◌, ◌≤◌, ◌<◌}
 use mathlib.Core.Path.{◌≡◌, refl, sym, ap, ◌∙◌}
 use mathlib.Core.Bool.{false}
-use mathlib.Core.Option.{Option, some}
+use Rattle.std.specs.Prelude.{Option, Some}
 use mathlib.Core.List.{List, [], ◌∷◌, ◌++◌, append_assoc, append-nil}
 use native.Mathlib.Omega.{arith}
 use lib.Dec.{lit<}
@@ -27,7 +27,7 @@ unfolding lines_of
 lines-plain [] t p = refl
 lines-plain (c ∷ l) t p = rw (ne_eqb c newline (λ e. omega (arith, p.0)), lines-plain l t p.1)
 
-word_value : (w v : List ℕ) → value_after w (w ++ v) ≡ some v
+word_value : (w v : List ℕ) → value_after w (w ++ v) ≡ Some v
 unfolding value_after
 word_value [] v = refl
 word_value (c ∷ w) v = rw (eq-eqb c c refl) (word_value w v)
@@ -37,7 +37,7 @@ pub line_text : (w v t : List ℕ) → line w v ++ t ≡ (w ++ v) ++ (newline �
 line_text w v t = simp append_assoc
 
 -- one line is read
-read-on : (s s' : Expects) (n : ℕ) (w v t : List ℕ) → Plain w → Plain v → line_read s (w ++ v) ≡ some s'
+read-on : (s s' : Expects) (n : ℕ) (w v t : List ℕ) → Plain w → Plain v → line_read s (w ++ v) ≡ Some s'
     → lines_read s n (lines_of (line w v ++ t)) ≡ lines_read s' (suc n) (lines_of t)
 unfolding lines_read
 read-on s s' n w v t p q e =
@@ -45,11 +45,11 @@ read-on s s' n w v t p q e =
     ∙ ap (lines_read s n) (lines-plain (w ++ v) t (plain-append w v p q))
     ∙ ap (λ (x : Option Expects). or_bad x n (λ s. lines_read s (suc n) (lines_of t))) e
 
-number_in_lem : (w : List ℕ) (n : ℕ) → n < 10 ^ digit_limit → number_in w (w ++ decimal n) ≡ some n
+number_in_lem : (w : List ℕ) (n : ℕ) → n < 10 ^ digit_limit → number_in w (w ++ decimal n) ≡ Some n
 unfolding number_in
 number_in_lem w n h = rw (word_value w (decimal n)) (decimal_back n h)
 
-bytes-in : (w bs : List ℕ) → Bytes bs → bytes_in w (w ++ hex bs) ≡ some bs
+bytes-in : (w bs : List ℕ) → Bytes bs → bytes_in w (w ++ hex bs) ≡ Some bs
 unfolding bytes_in
 bytes-in w bs h = rw (word_value w (hex bs)) (hex_back bs h)
 
@@ -58,34 +58,34 @@ bytes-in w bs h = rw (word_value w (hex bs)) (hex_back bs h)
 plain_value : (n : ℕ) → Plain (decimal n)
 plain_value n = digits-plain digit_limit n
 
-store-read : line_read a_store (store_line ++ []) ≡ some a_terms
+store-read : line_read a_store (store_line ++ []) ≡ Some a_terms
 unfolding line_read
 store-read = refl
 
-terms_read : (k : ℕ) → k < 10 ^ digit_limit → line_read a_terms (terms_word ++ decimal k) ≡ some (a_total k)
+terms_read : (k : ℕ) → k < 10 ^ digit_limit → line_read a_terms (terms_word ++ decimal k) ≡ Some (a_total k)
 unfolding line_read
 terms_read k h = rw (number_in_lem terms_word k h)
 
-total_read : (k n : ℕ) → n < 10 ^ digit_limit → line_read (a_total k) (total_word ++ decimal n) ≡ some (a_lane k n [])
+total_read : (k n : ℕ) → n < 10 ^ digit_limit → line_read (a_total k) (total_word ++ decimal n) ≡ Some (a_lane k n [])
 unfolding line_read
 total_read k n h = rw (number_in_lem total_word n h)
 
 name-read : (k n : ℕ) (ls : List Lane) (name : List ℕ) → Bytes name → length name ≤ name_limit → named name ls ≡ false
-    → line_read (a_lane k n ls) (term_word ++ hex name) ≡ some (a_length k n ls name)
+    → line_read (a_lane k n ls) (term_word ++ hex name) ≡ Some (a_length k n ls name)
 unfolding line_read name_taken
 name-read k n ls name b h f = rw (bytes-in term_word name b, le-leb (length name) name_limit h, f)
 
 length-read : (k n : ℕ) (ls : List Lane) (name : List ℕ) (len : ℕ) → len < 10 ^ digit_limit
-    → line_read (a_length k n ls name) (len_word ++ decimal len) ≡ some (some_bytes k n ls name len)
+    → line_read (a_length k n ls name) (len_word ++ decimal len) ≡ Some (some_bytes k n ls name len)
 unfolding line_read
 length-read k n ls name len h = rw (number_in_lem len_word len h)
 
 bytes_read : (k n : ℕ) (ls : List Lane) (name bs : List ℕ) → Bytes bs
-    → line_read (some_bytes k n ls name (length bs)) (bytes_word ++ hex bs) ≡ some (a_lane k n (ls ++ (lane name bs ∷ [])))
+    → line_read (some_bytes k n ls name (length bs)) (bytes_word ++ hex bs) ≡ Some (a_lane k n (ls ++ (lane name bs ∷ [])))
 unfolding line_read
 bytes_read k n ls name bs b = rw (bytes-in bytes_word bs b, eq-eqb (length bs) (length bs) refl)
 
-end_read : (ls : List Lane) → line_read (a_lane (length ls) (total_of ls) ls) (end_line ++ []) ≡ some (nothing ls)
+end_read : (ls : List Lane) → line_read (a_lane (length ls) (total_of ls) ls) (end_line ++ []) ≡ Some (nothing ls)
 unfolding line_read end_taken
 end_read ls = rw (eq-eqb (length ls) (length ls) refl, eq-eqb (total_of ls) (total_of ls) refl)
 

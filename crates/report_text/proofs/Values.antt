@@ -3,7 +3,7 @@ use Prim.Native.Nat.{ℕ, zero, suc, ◌+◌, ◌-◌, ◌*◌, ◌/◌, ◌%◌
 use mathlib.Core.Path.{◌≡◌, refl, ap, ◌∙◌}
 use mathlib.Core.Logic.{◌⊎◌, inl, inr, ⊎_elim}
 use mathlib.Core.Bool.{Bool, true, false, cond}
-use mathlib.Core.Option.{none, some}
+use Rattle.std.specs.Prelude.{None, Some}
 use mathlib.Core.List.{List, [], ◌∷◌, ◌++◌}
 use native.Mathlib.Nat.{pow-suc}
 use native.Mathlib.Omega.{arith}
@@ -50,32 +50,32 @@ digit_is : (d : ℕ) → d < 10 → is_digit (48 + d) ≡ true
 digit_is d h = rw (le-leb 48 (48 + d) (omega arith), le-leb (48 + d) 57 (omega arith))
 
 -- one more digit
-more : (v : ℕ) (cs : List ℕ) (u d : ℕ) → d < 10 → number_from v cs ≡ some u → number_from v (cs ++ ((48 + d) ∷ []))
-    ≡ some (10 * u + d)
+more : (v : ℕ) (cs : List ℕ) (u d : ℕ) → d < 10 → number_from v cs ≡ Some u → number_from v (cs ++ ((48 + d) ∷ []))
+    ≡ Some (10 * u + d)
 unfolding number_from
-more v [] u d h e = rw (digit_is d h) (let z : v ≡ u = cc in ap (λ (x : ℕ). some x) (omega arith))
+more v [] u d h e = rw (digit_is d h) (let z : v ≡ u = cc in ap (λ (x : ℕ). Some x) (omega arith))
 more v (c ∷ cs) u d h e = go (is_digit c) (more (10 * v + (c - 48)) cs u d h) e
   where
     go : (t : Bool)
-        → (number_from (10 * v + (c - 48)) cs ≡ some u → number_from (10 * v + (c - 48)) (cs ++ ((48 + d) ∷ []))
-        ≡ some (10 * u + d))
-        → cond t (number_from (10 * v + (c - 48)) cs) none ≡ some u
-        → cond t (number_from (10 * v + (c - 48)) (cs ++ ((48 + d) ∷ []))) none ≡ some (10 * u + d)
+        → (number_from (10 * v + (c - 48)) cs ≡ Some u → number_from (10 * v + (c - 48)) (cs ++ ((48 + d) ∷ []))
+        ≡ Some (10 * u + d))
+        → cond t (number_from (10 * v + (c - 48)) cs) None ≡ Some u
+        → cond t (number_from (10 * v + (c - 48)) (cs ++ ((48 + d) ∷ []))) None ≡ Some (10 * u + d)
     go true f e = f e
     go false f e = let z : ◌≡◌ {A = ℕ} 0 1 = cc in absurd (omega arith)
 
-from_last : (n : ℕ) → n < 10 → number_from 0 ((48 + n) ∷ []) ≡ some n
+from_last : (n : ℕ) → n < 10 → number_from 0 ((48 + n) ∷ []) ≡ Some n
 unfolding number_from
-from_last n h = rw (digit_is n h) (ap (λ (x : ℕ). some x) (omega arith))
+from_last n h = rw (digit_is n h) (ap (λ (x : ℕ). Some x) (omega arith))
 
-from_digits : (w n : ℕ) → n < 10 ^ suc w → number_from 0 (digits (suc w) n) ≡ some n
+from_digits : (w n : ℕ) → n < 10 ^ suc w → number_from 0 (digits (suc w) n) ≡ Some n
 from_digits zero n h = rw (digits_last zero n (omega arith)) (from_last n (omega arith))
 from_digits (suc w) n h =
     ⊎_elim
     (λ (k : n < 10). rw (digits_last (suc w) n k) (from_last n k))
     (λ (k : 10 ≤ n). rw (digits-on (suc w) n k)
     (more 0 (digits (suc w) (n / 10)) (n / 10) (n % 10) (omega arith) (from_digits w (n / 10) (reach (suc w) n h))
-    ∙ ap (λ (x : ℕ). some x) (omega arith)))
+    ∙ ap (λ (x : ℕ). Some x) (omega arith)))
     (below_or n 10)
 
 digits_most : (w n : ℕ) → length (digits w n) ≤ w
@@ -122,7 +122,7 @@ fair (suc w) n h =
     (below_or n 10)
 
 -- a number below 10^18 reads back
-pub decimal_back : (n : ℕ) → n < 10 ^ digit_limit → number_of (decimal n) ≡ some n
+pub decimal_back : (n : ℕ) → n < 10 ^ digit_limit → number_of (decimal n) ≡ Some n
 unfolding number_of
 decimal_back n h =
     rw (le-leb (length (decimal n)) digit_limit (digits_most digit_limit n), fair 17 n h) (from_digits 17 n h)
@@ -166,13 +166,13 @@ hex_digit_lem n h =
     (below_or n 10)
 
 -- bytes read back
-pub hex_back : (bs : List ℕ) → Bytes bs → bytes_of (hex bs) ≡ some bs
+pub hex_back : (bs : List ℕ) → Bytes bs → bytes_of (hex bs) ≡ Some bs
 unfolding hex bytes_of
 hex_back [] h = refl
 hex_back (b ∷ bs) h =
     let x = hex_digit_lem (b / 16) (omega (arith, h.0)) in
     let y = hex_digit_lem (b % 16) (omega arith) in
-    rw (x.0, y.0, x.1, y.1, hex_back bs h.1) (ap (λ (v : ℕ). some (v ∷ bs)) (omega arith))
+    rw (x.0, y.0, x.1, y.1, hex_back bs h.1) (ap (λ (v : ℕ). Some (v ∷ bs)) (omega arith))
 
 pub hex-plain : (bs : List ℕ) → Bytes bs → Plain (hex bs)
 unfolding hex

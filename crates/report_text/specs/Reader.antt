@@ -1,7 +1,7 @@
 -- RULES AA6, AA7, AA8. Document 02, One: the reader. It goes line by line; each line is judged by what is expected
 -- there, so the first bad line is the first that is refused.
 use Rattle.std.specs.Prelude.{ℕ, suc, ◌+◌, ◌-◌, ◌*◌, Bool, true, false, cond, ◌&&◌, ◌||◌, not, List, [], ◌∷◌, ◌++◌, leb, eqb, length}
-use Rattle.std.proofs.Math.Option.{Option, none, some}
+use Rattle.std.specs.Prelude.{Option, None, Some}
 use Rattle.limits.specs.Limits.{name_limit, digit_limit}
 use Rattle.fastcmp.specs.Equal.{equal_bytes}
 use Rattle.report_text.specs.Text.{Lane, lane, total_of, newline, store_line, terms_word, total_word, term_word}
@@ -28,14 +28,14 @@ lines_of (c ∷ t) = cond (eqb c newline) (ended [] (lines_of t)) (in_front c (l
 
 -- RULES AA8. A step that may fail, after another.
 abbrev pub and_then : {A B : Type 0} → Option A → (A → Option B) → Option B
-and_then none f = none
-and_then (some x) f = f x
+and_then None f = None
+and_then (Some x) f = f x
 
 -- RULES AA8. What follows a word in a line that begins with it.
 unfoldable pub value_after : List ℕ → List ℕ → Option (List ℕ)
-value_after [] l = some l
-value_after (w ∷ ws) [] = none
-value_after (w ∷ ws) (c ∷ l) = cond (eqb w c) (value_after ws l) none
+value_after [] l = Some l
+value_after (w ∷ ws) [] = None
+value_after (w ∷ ws) (c ∷ l) = cond (eqb w c) (value_after ws l) None
 
 -- RULES AA8. 0 to 9.
 abbrev pub is_digit : ℕ → Bool
@@ -43,8 +43,8 @@ is_digit c = leb 48 c && leb c 57
 
 -- RULES AA8. The number that digits behind a number v make.
 unfoldable pub number_from : ℕ → List ℕ → Option ℕ
-number_from v [] = some v
-number_from v (c ∷ cs) = cond (is_digit c) (number_from (10 * v + (c - 48)) cs) none
+number_from v [] = Some v
+number_from v (c ∷ cs) = cond (is_digit c) (number_from (10 * v + (c - 48)) cs) None
 
 -- RULES AA8. At least one digit, and "no leading zero but 0 itself"
 abbrev pub no_leading_zero : List ℕ → Bool
@@ -55,7 +55,7 @@ no_leading_zero (c ∷ d ∷ cs) = not (eqb c 48)
 -- RULES AA8. "decimals of 1 to 18 digits"
 unfoldable pub number_of : List ℕ → Option ℕ
 unfolding number_from
-number_of cs = cond (leb (length cs) digit_limit && no_leading_zero cs) (number_from 0 cs) none
+number_of cs = cond (leb (length cs) digit_limit && no_leading_zero cs) (number_from 0 cs) None
 
 -- RULES AA8. 0 to 9, a to f.
 abbrev pub is_hex : ℕ → Bool
@@ -67,14 +67,14 @@ hex_value c = cond (leb c 57) (c - 48) (c - 87)
 
 -- RULES AA8. A byte in front.
 abbrev pub byte_before : ℕ → Option (List ℕ) → Option (List ℕ)
-byte_before b none = none
-byte_before b (some bs) = some (b ∷ bs)
+byte_before b None = None
+byte_before b (Some bs) = Some (b ∷ bs)
 
 -- RULES AA8. Two lower-case digits a byte.
 unfoldable pub bytes_of : List ℕ → Option (List ℕ)
-bytes_of [] = some []
-bytes_of (c ∷ []) = none
-bytes_of (c ∷ d ∷ cs) = cond (is_hex c && is_hex d) (byte_before (16 * hex_value c + hex_value d) (bytes_of cs)) none
+bytes_of [] = Some []
+bytes_of (c ∷ []) = None
+bytes_of (c ∷ d ∷ cs) = cond (is_hex c && is_hex d) (byte_before (16 * hex_value c + hex_value d) (bytes_of cs)) None
 
 -- RULES AA8. The decimal behind a word.
 unfoldable pub number_in : List ℕ → List ℕ → Option ℕ
@@ -107,7 +107,7 @@ pub data Expects : Type 0 where
 
 -- RULES AA7. Where a test holds.
 abbrev pub provided : Bool → Expects → Option Expects
-provided t s = cond t (some s) none
+provided t s = cond t (Some s) None
 
 -- RULES AA7. A name: "distinct and at most 65,535 bytes"
 unfoldable pub name_taken : ℕ → ℕ → List Lane → List ℕ → Option Expects
@@ -127,14 +127,14 @@ bytes_taken terms total ls n len bs = provided (eqb (length bs) len) (a_lane ter
 unfoldable pub line_read : Expects → List ℕ → Option Expects
 unfolding equal_bytes number_in bytes_in name_taken end_taken
 line_read a_store l = provided (equal_bytes l store_line) a_terms
-line_read a_terms l = and_then (number_in terms_word l) (λ terms. some (a_total terms))
-line_read (a_total terms) l = and_then (number_in total_word l) (λ total. some (a_lane terms total []))
+line_read a_terms l = and_then (number_in terms_word l) (λ terms. Some (a_total terms))
+line_read (a_total terms) l = and_then (number_in total_word l) (λ total. Some (a_lane terms total []))
 line_read (a_lane terms total ls) l =
     cond (equal_bytes l end_line) (end_taken terms total ls)
     (and_then (bytes_in term_word l) (λ n. name_taken terms total ls n))
-line_read (a_length terms total ls n) l = and_then (number_in len_word l) (λ len. some (some_bytes terms total ls n len))
+line_read (a_length terms total ls n) l = and_then (number_in len_word l) (λ len. Some (some_bytes terms total ls n len))
 line_read (some_bytes terms total ls n len) l = and_then (bytes_in bytes_word l) (λ bs. bytes_taken terms total ls n len bs)
-line_read (nothing ls) l = none
+line_read (nothing ls) l = None
 
 -- ---- the whole text
 
@@ -162,8 +162,8 @@ rest_read (nothing ls) n l = no_more l (lanes ls) (bad n)
 
 -- RULES AA6. Going on behind a good line.
 abbrev pub or_bad : Option Expects → ℕ → (Expects → Told) → Told
-or_bad none n k = bad n
-or_bad (some s) n k = k s
+or_bad None n k = bad n
+or_bad (Some s) n k = k s
 
 -- RULES AA6. From line n on.
 unfoldable pub lines_read : Expects → ℕ → Lines → Told

@@ -1,22 +1,7 @@
 -- RULES AA8. The values of a line as the code answers them.
 use Rattle.std.specs.Prelude.{ℕ, ◌%◌, Bool, true, false, cond, List, [], ◌∷◌, leb, eqb, length, take}
-use Rattle.std.proofs.Math.Option.{Option, none, some}
 use Rattle.fastcmp.specs.Equal.{equal_bytes}
-use Rattle.report_text.specs.declared.fields.Decimal.{Decimal}
-use Rattle.report_text.specs.declared.fields.Decimal.TheVariants.{Number, NoNumber}
-use Rattle.report_text.specs.declared.fields.Hexed.{Hexed}
-use Rattle.report_text.specs.declared.fields.Hexed.TheVariants.{Bytes, NoBytes}
 use Rattle.report_text.specs.Reader.{is_hex}
-
--- RULES AA8. As the code answers it.
-abbrev pub decimal_of : Option ℕ → Decimal
-decimal_of none = NoNumber
-decimal_of (some n) = Number n
-
--- RULES AA8. How many bytes hex stands for.
-abbrev pub hexed_of : Option (List ℕ) → Hexed
-hexed_of none = NoBytes
-hexed_of (some bs) = Bytes (length bs)
 
 -- RULES AA8. A line begins with a word.
 unfoldable pub begins_with : List ℕ → List ℕ → Bool

@@ -1,131 +1,73 @@
 // What stands behind a line's word: decimals and hex.
-ghost use Rattle.std.specs.Prelude.{◌≡◌, true, ◌+◌, ◌*◌, ◌-◌, ◌≤◌, ◌<◌, ◌^◌, length};
+ghost use Rattle.std.specs.Prelude.{◌≡◌, true, ◌+◌, ◌*◌, ◌-◌, ◌≤◌, ◌<◌, ◌^◌, length, option_map};
 ghost use Rattle.report_text.specs.Reader.{is_digit, is_hex, number_from, number_of, number_in, bytes_in};
-ghost use Rattle.report_text.specs.Values.{decimal_of, hexed_of, begins_with, hex_text};
-
-// A decimal, or none.
-#[derive(Clone, Copy)]
-pub enum Decimal {
-    Number(u64),
-    NoNumber,
-}
-
-fn is_digit(b: u8) -> bool
-    ensures { result ≡ is_digit b }
-{
-    (48 <= b) & (b <= 57)
-}
+ghost use Rattle.report_text.specs.Values.{hex_text};
 
 // One more digit.
 fn more(v: u64, b: u8) -> u64
     requires { (is_digit b ≡ true) × (v < 10 ^ 17) }
     ensures { result ≡ 10 * v + (b - 48) }
 {
-    10 * v + ((b - 48) as u64)
+    10 * v + u64::from(b - b'0')
 }
 
 // The decimal that bytes are: 1 to 18 digits, no leading zero but 0 itself.
-fn number(text: &[u8]) -> Decimal
-    ensures { result ≡ decimal_of (number_of text.now) }
+fn number(text: &[u8]) -> Option<u64>
+    ensures { result ≡ number_of text.now }
 {
     let n = text.len();
-    if n == 0 {
-        return Decimal::NoNumber;
+    if n == 0 || limits::DIGIT_LIMIT < n {
+        return None;
     }
-    if limits::DIGIT_LIMIT < n {
-        return Decimal::NoNumber;
-    }
-    if n == 1 {
-        return digits(text);
-    }
-    if text[0] == 48 {
-        return Decimal::NoNumber;
+    if n != 1 && text[0] == b'0' {
+        return None;
     }
     digits(text)
 }
 
 // The number that at most 18 digits make.
-fn digits(text: &[u8]) -> Decimal
+fn digits(text: &[u8]) -> Option<u64>
     requires { length text.now ≤ 18 }
-    ensures { result ≡ decimal_of (number_from 0 text.now) }
+    ensures { result ≡ number_from 0 text.now }
 {
-    let mut v: u64 = 0;
-    let mut i = 0;
-    while i < text.len() {
-        let b = text[i];
-        if !is_digit(b) {
-            return Decimal::NoNumber;
+    let mut v = 0;
+    for b in text {
+        if !b.is_ascii_digit() {
+            return None;
         }
-        v = more(v, b);
-        i += 1;
+        v = more(v, *b);
     }
-    Decimal::Number(v)
+    Some(v)
 }
 
+// Lower-case.
 fn is_hex(b: u8) -> bool
     ensures { result ≡ is_hex b }
 {
-    let low = (97 <= b) & (b <= 102);
-    is_digit(b) | low
+    matches!(b, b'0'..=b'9' | b'a'..=b'f')
 }
 
 // Whether bytes are lower-case hex, two digits a byte.
 pub fn is_hex_text(text: &[u8]) -> bool
     ensures { result ≡ hex_text text.now }
 {
-    let n = text.len();
-    if n % 2 != 0 {
-        return false;
-    }
-    let mut i = 0;
-    while i < n {
-        if !is_hex(text[i]) {
-            return false;
-        }
-        i += 1;
-    }
-    true
-}
-
-// How many bytes hex stands for, or none.
-#[derive(Clone, Copy)]
-pub enum Hexed {
-    Bytes(u64),
-    NoBytes,
-}
-
-// Whether a line begins with a word.
-fn has_word(line: &[u8], word: &[u8]) -> bool
-    ensures { result ≡ begins_with word.now line.now }
-{
-    let n = word.len();
-    if line.len() < n {
-        return false;
-    }
-    fastcmp::fast_short_slice_compare(&line[0..n], word)
+    text.len() % 2 == 0 && text.iter().all(|b| is_hex(*b))
 }
 
 // The decimal behind a word.
-pub fn number_in(line: &[u8], word: &[u8]) -> Decimal
-    ensures { result ≡ decimal_of (number_in word.now line.now) }
+pub fn number_in(line: &[u8], word: &[u8]) -> Option<u64>
+    ensures { result ≡ number_in word.now line.now }
 {
-    if !has_word(line, word) {
-        return Decimal::NoNumber;
-    }
-    let n = word.len();
-    number(&line[n..])
+    number(line.strip_prefix(word)?)
 }
 
 // How many bytes the hex behind a word stands for.
-pub fn bytes_in(line: &[u8], word: &[u8]) -> Hexed
-    ensures { result ≡ hexed_of (bytes_in word.now line.now) }
+pub fn bytes_in(line: &[u8], word: &[u8]) -> Option<u64>
+    ensures { result ≡ option_map length (bytes_in word.now line.now) }
 {
-    if !has_word(line, word) {
-        return Hexed::NoBytes;
+    let text = line.strip_prefix(word)?;
+    if !is_hex_text(text) {
+        return None;
     }
-    let n = word.len();
-    if !is_hex_text(&line[n..]) {
-        return Hexed::NoBytes;
-    }
-    Hexed::Bytes(((line.len() - n) / 2) as u64)
+    Some((text.len() / 2) as u64)
 }

@@ -11,9 +11,7 @@ use Rattle.join.proofs.bring.Goals.{Start}
 
 -- the name lies in the second store's key pages
 key_in : (c : Start) → c.args.at + 2 + c.args.name ≤ length c.args.keys2.now
-key_in c =
-    let a = c.args in standing_key a.st2 (lent a.table2.now a.keys2.now a.lists2.now) a.at a.n c.requires.standing
-    a.name c.requires.named
+key_in c = standing_key c.requires.standing c.requires.named
 
 pub overflow_add-to : goal.overflow_add-to
 overflow_add-to c = omega (arith, key_in (goal.at.overflow_add-to c).Start)

@@ -1,50 +1,28 @@
 -- `report::report` meets its contract. Assumes nothing.
-use Prim.Native.Nat.{◌+◌}
-use mathlib.Core.Path.{sym, ap, ◌∙◌, subst}
+use mathlib.Core.Path.{sym}
 use native.Mathlib.Omega.{arith}
-use lib.ListN.{length}
-use Rattle.spans.proofs.Laws.{length-overwrite}
+use Rattle.std.proofs.lemmas.Result.{err_from_is_err_and}
 use Rattle.store_look.specs.Look.{lent}
-use Rattle.report.specs.declared.Reported.{Reported}
-use Rattle.report.specs.Report.{out}
-use Rattle.report_lanes.specs.Measure.{Few}
 use Rattle.report_lanes.proofs.Measuring.{decimal_most}
 use Rattle.report.proofs.Written.{head-long}
 use Rattle.report.proofs.Reporting.{report_2, report_halted, sums, head_size, report_8, report_done, told}
 use Rattle.report.proofs.report.Goals as goal
 
-pub returns-then-not-is_whole_state : goal.returns-then-not-is_whole_state
-returns-then-not-is_whole_state c =
+pub returns-then-not-is_whole_state-clause-settled : goal.returns-then-not-is_whole_state-clause-settled
+returns-then-not-is_whole_state-clause-settled c =
+    report_2 c.args.st (lent c.args.table.now c.args.keys.now c.args.lists.now) c.args.output.now (sym
+    c.if-not-is_whole_state.ensures)
+
+pub returns-in_err-sums : goal.returns-in_err-sums
+returns-in_err-sums c =
     let m = lent c.args.table.now c.args.keys.now c.args.lists.now in
-    let it = told c.args.st m c.args.output.now _ _ (report_2 c.args.st m c.args.output.now (sym
-    c.is_whole_state.ensures ∙ c.if-not-is_whole_state.true)) in record { settled = it.0; numbered = it.1 }
-
-pub measure-m-requires : goal.measure-m-requires
-measure-m-requires c = (sym c.is_whole_state.ensures ∙ c.if-not-is_whole_state.false)
-
-pub returns-in_default : goal.returns-in_default
-returns-in_default c =
-    let m = lent c.args.table.now c.args.keys.now c.args.lists.now in
-    let it = told c.args.st m c.args.output.now _ _ (ap (λ (r : Reported). out r c.args.output.now) c.halted.ensures
-    ∙ report_halted c.args.st m c.args.output.now (sym c.is_whole_state.ensures ∙ c.if-not-is_whole_state.false) _
-    c.measure-m.ensures.0 c.in_default.in_default-own.keys2) in record { settled = it.0; numbered = it.1 }
-
-pub digit_count-k-requires : goal.digit_count-k-requires
-digit_count-k-requires c = (subst Few c.in-Sums.is c.measure-m.ensures.1).0
-
-pub digit_count-j-requires : goal.digit_count-j-requires
-digit_count-j-requires c = (subst Few c.in-Sums.is c.measure-m.ensures.1).1
+    let p = err_from_is_err_and c.from_residual.result c.from_residual.ensures.1 in
+    let it = told c.args.st m c.args.output.now _ _ (report_halted c.args.st m c.args.output.now (sym
+    c.if-not-is_whole_state.ensures) _ c.in_err-sums.ensures.0) in
+    rw (p.1, p.2) (record { settled = it.0; numbered = it.1 })
 
 pub overflow_add-n : goal.overflow_add-n
-overflow_add-n c =
-    omega (
-      arith,
-      c.digit_count-k.ensures,
-      c.digit_count-j.ensures,
-      decimal_most c.in-Sums.lanes,
-      decimal_most
-          c.in-Sums.bytes,
-    )
+overflow_add-n c = omega (arith, c.digit_count-k.ensures, decimal_most c.in_ok-sums.sums.lanes)
 
 pub overflow_add-n-2 : goal.overflow_add-n-2
 overflow_add-n-2 c =
@@ -52,40 +30,36 @@ overflow_add-n-2 c =
       arith,
       c.digit_count-k.ensures,
       c.digit_count-j.ensures,
-      decimal_most c.in-Sums.lanes,
-      decimal_most
-          c.in-Sums.bytes,
+      decimal_most c.in_ok-sums.sums.lanes,
+      decimal_most c.in_ok-sums.sums.bytes,
     )
 
 pub overflow_add-n-3 : goal.overflow_add-n-3
 overflow_add-n-3 c =
-    let q = subst Few c.in-Sums.is c.measure-m.ensures.1 in omega (
+    omega (
       arith,
-      q.2,
+      c.in_ok-sums.ensures.1,
       c.digit_count-k.ensures,
       c.digit_count-j.ensures,
-      decimal_most c.in-Sums.lanes,
-      decimal_most c.in-Sums.bytes,
+      decimal_most c.in_ok-sums.sums.lanes,
+      decimal_most c.in_ok-sums.sums.bytes,
     )
 
-pub returns-then-output-n : goal.returns-then-output-n
-returns-then-output-n c =
+pub returns-then-output-n-clause-settled : goal.returns-then-output-n-clause-settled
+returns-then-output-n-clause-settled c =
     let m = lent c.args.table.now c.args.keys.now c.args.lists.now in
-    let it = told c.args.st m c.args.output.now _ _ (report_8 c.args.st m c.args.output.now _ _ _ (sums c.args.st m
-    c.args.output.now _ _ _ (sym c.in-Sums.is ∙ c.measure-m.ensures.0)) (sym c.is_whole_state.ensures ∙
-    c.if-not-is_whole_state.false) _ (λ i. 28 + c.digit_count-k.ensures i + c.digit_count-j.ensures i +
-    c.in-Sums.text) (omega arith)) in record { settled = it.0; numbered = it.1 }
+    report_8 c.args.st m c.args.output.now _ (sums c.args.st m c.args.output.now _ c.in_ok-sums.ensures.0) (sym
+    c.if-not-is_whole_state.ensures) _ (omega (arith, c.digit_count-k.ensures, c.digit_count-j.ensures)) (omega arith)
 
 pub write_head-p-requires : goal.write_head-p-requires
 write_head-p-requires c =
-    let q = subst Few c.in-Sums.is c.measure-m.ensures.1 in (
+    let q = c.in_ok-sums.ensures.1 in (
       q.0,
       (
         q.1,
         omega (
           arith,
-          head-long c.in-Sums.lanes
-              c.in-Sums.bytes,
+          head-long c.in_ok-sums.sums.lanes c.in_ok-sums.sums.bytes,
           c.digit_count-k.ensures,
           c.digit_count-j.ensures,
         ),
@@ -95,45 +69,36 @@ write_head-p-requires c =
 pub write_lanes-q-requires : goal.write_lanes-q-requires
 write_lanes-q-requires c =
     let m = lent c.args.table.now c.args.keys.now c.args.lists.now in
-    let S = sums c.args.st m c.args.output.now _ _ _ (sym c.in-Sums.is ∙ c.measure-m.ensures.0) in record {
-      whole =
-          sym c.is_whole_state.ensures ∙ c.if-not-is_whole_state.false;
+    let S = sums c.args.st m c.args.output.now _ c.in_ok-sums.ensures.0 in record {
+      whole = sym c.if-not-is_whole_state.ensures;
       met = S.met;
       fits = omega (
         arith,
         S.text,
         c.write_head-p.ensures.1,
-        head_size c.args.st m c.args.output.now _ _ _ S,
+        head_size c.args.st m c.args.output.now _ S,
         c.digit_count-k.ensures,
         c.digit_count-j.ensures,
-        ap length c.write_head-p.ensures.0 ∙ length-overwrite 0 _ _,
       );
     }
 
 pub copy_in-requires : goal.copy_in-requires
 copy_in-requires c =
     let m = lent c.args.table.now c.args.keys.now c.args.lists.now in
-    let S = sums c.args.st m c.args.output.now _ _ _ (sym c.in-Sums.is ∙ c.measure-m.ensures.0) in omega (
+    let S = sums c.args.st m c.args.output.now _ c.in_ok-sums.ensures.0 in omega (
       arith,
       S.text,
       c.write_lanes-q.ensures.1,
       c.write_head-p.ensures.1,
-      head_size c.args.st m c.args.output.now _ _ _ S,
+      head_size c.args.st m c.args.output.now _ S,
       c.digit_count-k.ensures,
       c.digit_count-j.ensures,
-      ap length c.write_lanes-q.ensures.0 ∙ length-overwrite _ _ _,
-      ap length c.write_head-p.ensures.0 ∙ length-overwrite 0 _ _,
     )
 
-pub returns : goal.returns
-returns c =
+pub returns-clause-settled : goal.returns-clause-settled
+returns-clause-settled c =
     let m = lent c.args.table.now c.args.keys.now c.args.lists.now in
-    let it = told c.args.st m c.args.output.now _ _ (report_done c.args.st m c.args.output.now _ _ _ (sums c.args.st
-    m c.args.output.now _ _ _ (sym c.in-Sums.is ∙ c.measure-m.ensures.0)) (sym c.is_whole_state.ensures ∙
-    c.if-not-is_whole_state.false) _ (λ i. 28 + c.digit_count-k.ensures i + c.digit_count-j.ensures i +
-    c.in-Sums.text) (omega arith) _ _ _ _ _ c.write_head-p.ensures.0 c.write_head-p.ensures.1
-    c.write_lanes-q.ensures.0 c.write_lanes-q.ensures.1 c.copy_in.ensures) in record {
-      settled = it.0;
-      numbered =
-          it.1;
-    }
+    report_done c.args.st m c.args.output.now _ (sums c.args.st m c.args.output.now _ c.in_ok-sums.ensures.0) (sym
+    c.if-not-is_whole_state.ensures) _ (omega (arith, c.digit_count-k.ensures, c.digit_count-j.ensures)) (omega arith)
+    _ _ _ _ _ c.write_head-p.ensures.0 c.write_head-p.ensures.1 c.write_lanes-q.ensures.0 c.write_lanes-q.ensures.1
+    c.copy_in.ensures

@@ -5,26 +5,18 @@ use mathlib.Core.List.{List, []}
 use native.Mathlib.Omega.{arith}
 use lib.ListN.{length}
 use Rattle.spans.specs.Span.{overwrite}
-use Rattle.spans.proofs.Laws.{length-overwrite}
 use Rattle.report_text.specs.Text.{store_line, terms_word, total_word, decimal, line}
 use Rattle.report_put.proofs.Laws.{line-long}
 use Rattle.report.proofs.Written.{put_first, put_next, head-lines, head-long}
 use Rattle.report.proofs.write_head.Goals as goal
 
 pub copy_in-requires : goal.copy_in-requires
-copy_in-requires c = omega (arith, head-long c.args.lanes c.args.bytes, c.requires.1.1)
+copy_in-requires c = omega (arith, head-long c.args.lanes c.args.bytes)
 
 pub put_number_line-a-requires : goal.put_number_line-a-requires
 put_number_line-a-requires c = (
   c.requires.0,
-  omega (
-    arith,
-    head-long c.args.lanes c.args.bytes,
-    c.requires.1.1,
-    line-long terms_word
-        (decimal c.args.lanes),
-    ap length c.copy_in.ensures ∙ length-overwrite 0 _ _,
-  ),
+  omega (arith, head-long c.args.lanes c.args.bytes, line-long terms_word (decimal c.args.lanes)),
 )
 
 pub put_number_line-requires : goal.put_number_line-requires
@@ -33,14 +25,8 @@ put_number_line-requires c = (
   omega (
     arith,
     head-long c.args.lanes c.args.bytes,
-    c.requires.1.1,
-    line-long terms_word
-        (decimal c.args.lanes),
+    line-long terms_word (decimal c.args.lanes),
     line-long total_word (decimal c.args.bytes),
-    c.put_number_line-a.ensures.1,
-    ap length
-        c.copy_in.ensures ∙ length-overwrite 0 _ _,
-    ap length c.put_number_line-a.ensures.0 ∙ length-overwrite _ _ _,
   ),
 )
 

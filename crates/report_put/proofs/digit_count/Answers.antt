@@ -6,12 +6,6 @@ use Rattle.report_put.proofs.digit_count.Goals as goal
 pub loop-rest-init : goal.loop-rest-init
 loop-rest-init c = counting_starts c.args.n c.requires
 
-pub overflow_add-k : goal.overflow_add-k
-overflow_add-k c = omega (arith, c.loop-rest.invariant.fits)
-
-pub loop-rest-smaller : goal.loop-rest-smaller
-loop-rest-smaller c = omega arith
-
 pub loop-rest-preserved : goal.loop-rest-preserved
 loop-rest-preserved c = counting-on c.loop-rest.invariant (omega arith)
 

@@ -1,11 +1,6 @@
 -- `report_put::put_hex` meets its contract. Assumes nothing.
-use Prim.Native.Nat.{◌-◌}
-use lib.ListN.{length}
 use Rattle.report_put.proofs.Laws.{Putting}
 use Rattle.report_put.proofs.put_hex.Given as goal
 
 abbrev pub invariant-loop-i : goal.invariant-loop-i
-invariant-loop-i l = Putting l.at l.src l.initial.output l.output l.p l.i
-
-abbrev pub decreases-loop-i : goal.decreases-loop-i
-decreases-loop-i l = length l.src - l.i
+invariant-loop-i l = Putting l.at l.src l.initial.output l.output l.i

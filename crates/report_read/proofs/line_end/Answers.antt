@@ -1,43 +1,21 @@
--- `report_read::line_end` meets its contract. The invariant: the line's end from the start is its end from `i`.
--- Assumes nothing.
-use mathlib.Core.Path.{refl}
+-- `report_read::line_end` meets its contract. Assumes nothing.
+use mathlib.Core.Path.{sym, ap, ◌∙◌}
 use native.Mathlib.Omega.{arith}
-use Rattle.report_read.proofs.Lines.{length_stop, length_goes, length-end}
+use lib.ListN.{drop, length-drop}
+use Rattle.std.specs.Prelude.{nat_eq, position}
+use Rattle.report_text.specs.Text.{newline}
+use Rattle.report_read.proofs.Lines.{rest_part, line_found, line_open, line-in}
 use Rattle.report_read.proofs.line_end.Goals as goal
 
-pub loop-i-init : goal.loop-i-init
-loop-i-init c = (omega arith, refl)
+pub returns-in-Some : goal.returns-in-Some
+returns-in-Some c =
+    let r = ap (position (λ x. nat_eq x newline)) (rest_part c.args.text.now c.args.from) in
+    let n = line_found (drop c.args.from c.args.text.now) c.in-Some.n (sym (c.in-Some.ensures ∙ r)) in
+    (omega (arith, n.0), omega (arith, n.1, length-drop c.args.from c.args.text.now))
 
-pub bounds-text-i : goal.bounds-text-i
-bounds-text-i c = omega arith
-
-pub returns-then-text-i-eq10 : goal.returns-then-text-i-eq10
-returns-then-text-i-eq10 c = (
-  omega (
-    arith,
-    c.loop-i.invariant.1,
-    length_stop c.args.text.now c.loop-i.i (omega arith)
-        c.if-text-i-eq10.true,
-  ),
-  omega arith,
-)
-
-pub overflow_add-i : goal.overflow_add-i
-overflow_add-i c = omega arith
-
-pub loop-i-smaller : goal.loop-i-smaller
-loop-i-smaller c = omega arith
-
-pub loop-i-preserved : goal.loop-i-preserved
-loop-i-preserved c = (
-  omega arith,
-  omega (
-    arith,
-    c.loop-i.invariant.1,
-    length_goes c.args.text.now c.loop-i.i (omega arith)
-        c.if-text-i-eq10.false,
-  ),
-)
-
-pub returns : goal.returns
-returns c = (omega (arith, c.loop-i.invariant.1, length-end c.args.text.now c.loop-i.i (omega arith)), omega arith)
+pub returns-in-None : goal.returns-in-None
+returns-in-None c =
+    let r = ap (position (λ x. nat_eq x newline)) (rest_part c.args.text.now c.args.from) in
+    let n = line_open (drop c.args.from c.args.text.now) (sym (c.in-None.ensures ∙ r)) in
+    let l = line-in c.args.text.now c.args.from c.requires in
+    (omega (arith, n, l, length-drop c.args.from c.args.text.now), omega arith)

@@ -1,10 +1,17 @@
 -- `report_read::check::end_line` meets its contract. Assumes nothing.
-use mathlib.Core.Path.{sym}
-use Rattle.report_read.proofs.LineKinds.{end-good, end_bad}
+use borrow.Author.Tests.{eq-eqb, ne_eqb}
+use Rattle.report_read.specs.Counted.{end_counted}
 use Rattle.report_read.proofs.check.end_line.Goals as goal
+use Rattle.report_read.proofs.check.end_line.Goals.{then-p-via-then-p, then-p-via-else-p+then-p-2}
 
-pub returns-then-not-met : goal.returns-then-not-met
-returns-then-not-met c = sym (end_bad c.args.p (c.if-not-met.true))
+pub returns-then-p : goal.returns-then-p
+unfolding end_counted
+returns-then-p c =
+    elim c.then-p.branch [
+      | then-p-via-then-p w ↦ rw (ne_eqb _ _ w.if-p.true)
+      | then-p-via-else-p+then-p-2 w ↦ rw (eq-eqb _ _ w.if-p.false, ne_eqb _ _ w.if-p-2.true)
+    ]
 
 pub returns : goal.returns
-returns c = sym (end-good c.args.p (c.if-not-met.false))
+unfolding end_counted
+returns c = rw (eq-eqb _ _ c.if-p.false, eq-eqb _ _ c.if-p-2.false)
