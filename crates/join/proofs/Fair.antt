@@ -20,7 +20,7 @@ use Rattle.store_look.specs.Look.{checked, blocks_sound, next_of}
 use Rattle.store_append.proofs.Fair.{fair-append}
 use Rattle.std.specs.Prelude.{Option, Some, None, Result, Ok, Err}
 use Rattle.limits.specs.declared.Refusal.{Refusal}
-use Rattle.limits.specs.declared.Refusal.TheVariants.{NotWhole, Damaged}
+use Rattle.limits.specs.declared.Refusal.TheVariants.{NotWhole, Damage}
 use Rattle.report_lanes.specs.declared.MetLane.{MetLane}
 use Rattle.report_lanes.specs.Measure.{met_lane, some_lane, met_of, on_next_lane, next_lane_of}
 use Rattle.history.specs.History.{World, append_in}
@@ -67,11 +67,11 @@ fair-met v i = go (next_of v.state v.memory i)
   where
     sound : (j at : ℕ) (b : Bool)
         → FairNext (some_lane (cond b (Ok (met_lane j at (key_length v.memory.keys at)
-        (lane_length (header_of v.memory.keys at)))) (Err Damaged)))
+        (lane_length (header_of v.memory.keys at)))) (Err Damage)))
     sound j at true = tt
     sound j at false = refl
 
-    stop : (b : Bool) → is_among (number_of (cond b NotWhole Damaged)) (refusal_numbers joining) ≡ true
+    stop : (b : Bool) → is_among (number_of (cond b NotWhole Damage)) (refusal_numbers joining) ≡ true
     stop true = refl
     stop false = refl
 

@@ -18,7 +18,7 @@ use Rattle.report_text.specs.Text.{Lane as TextLane, newline, end_line, total_of
 use Rattle.report_text.specs.Text.{decimal, lanes_text, head_text, report_text}
 use Rattle.std.specs.Prelude.{Result, Ok, Err}
 use Rattle.limits.specs.declared.Refusal.{Refusal}
-use Rattle.limits.specs.declared.Refusal.TheVariants.{NotWhole, Damaged}
+use Rattle.limits.specs.declared.Refusal.TheVariants.{NotWhole, Damage}
 use Rattle.report_lanes.specs.declared.Sums.{Sums}
 use Rattle.report.specs.declared.Unwritten.{Unwritten}
 use Rattle.report.specs.declared.Unwritten.TheVariants.{Refused, TooShort}
@@ -137,11 +137,11 @@ ends st m zero i = tt
 ends st m (suc n) i = go (next_of st m i) (ends st m n)
   where
     met : (at j : ℕ) (b : Bool) → Ends (gather_from st m n j)
-        → Ends (cond b (lane_before (lane_at m at) (gather_from st m n j)) (halted Damaged))
+        → Ends (cond b (lane_before (lane_at m at) (gather_from st m n j)) (halted Damage))
     met at j true e = ends_before (lane_at m at) (gather_from st m n j) e
     met at j false e = refl
 
-    stop : (b : Bool) → is_among (number_of (cond b NotWhole Damaged)) (refusal_numbers reporting) ≡ true
+    stop : (b : Bool) → is_among (number_of (cond b NotWhole Damage)) (refusal_numbers reporting) ≡ true
     stop true = refl
     stop false = refl
 

@@ -34,7 +34,7 @@ use Rattle.report_text.specs.Text.{Lane as TextLane, digits, decimal, total_of, 
 use Rattle.report_text.proofs.Values.{hex-length}
 use Rattle.std.specs.Prelude.{Some, None, Result, Ok, Err}
 use Rattle.limits.specs.declared.Refusal.{Refusal}
-use Rattle.limits.specs.declared.Refusal.TheVariants.{Damaged}
+use Rattle.limits.specs.declared.Refusal.TheVariants.{Damage}
 use Rattle.report_lanes.specs.declared.MetLane.{MetLane}
 use Rattle.report_lanes.specs.declared.Sums.{Sums}
 use Rattle.report_lanes.specs.Lanes.{Gathered, gathered, halted, lane_before, lane_at, on_listed, gather_from}
@@ -63,7 +63,7 @@ module _ (st : State) (m : Lent) (i at : ℕ) where
           (on_answer (cond b (cond t (reading (Found (Reading (lane_length (header_of m.keys at))))
           (overwrite 0 (lane_bytes m.lists (header_of m.keys at)) []))
           (reading (Refused 8 (lane_length (header_of m.keys at))) [])) (reading (Refused 4 0) [])).answer)
-          ≡ cond b (Ok (met_lane i at (key_length m.keys at) (lane_length (header_of m.keys at)))) (Err Damaged)
+          ≡ cond b (Ok (met_lane i at (key_length m.keys at) (lane_length (header_of m.keys at)))) (Err Damage)
       go true true = refl
       go true false = refl
       go false t = refl
@@ -82,7 +82,7 @@ module _ (st : State) (m : Lent) (i at : ℕ) where
     where
       go : (a : Bool) → header_sound m.keys at ≡ a → (b : Bool)
           → SmallLane st.buckets (cond (a && b) (Ok (met_lane i at (key_length m.keys at) (lane_length (header_of m.keys at))))
-          (Err Damaged))
+          (Err Damage))
       go true e true = (
         h,
         k,
@@ -209,7 +209,7 @@ unfolding next_lane_of met_of
 turn st m left index a c l e = go (next_of st m index) refl e
   where
     made : (j at : ℕ) → next_of st m index ≡ Bucket j at → (b : Bool) → blocks_sound st m at ≡ b
-        → some_lane (cond b (Ok (met_lane j at (key_length m.keys at) (lane_length (header_of m.keys at)))) (Err Damaged))
+        → some_lane (cond b (Ok (met_lane j at (key_length m.keys at) (lane_length (header_of m.keys at)))) (Err Damage))
         ≡ Ok (Some a) → Turn st m left index a
     made j at p true q e =
         let x : met_lane j at (key_length m.keys at) (lane_length (header_of m.keys at)) ≡ a = cc in
@@ -315,9 +315,9 @@ module _ (st : State) (m : Lent) (left index : ℕ) (l : 0 < left) where
       ap (λ (k : ℕ). gather_from st m k index) s ∙ go (next_of st m index) e
     where
       met : (j at : ℕ) (t : Bool)
-          → some_lane (cond t (Ok (met_lane j at (key_length m.keys at) (lane_length (header_of m.keys at)))) (Err Damaged))
+          → some_lane (cond t (Ok (met_lane j at (key_length m.keys at) (lane_length (header_of m.keys at)))) (Err Damage))
           ≡ Ok None
-          → cond t (lane_before (lane_at m at) (gather_from st m (left - 1) (j + 1))) (halted Damaged) ≡ gathered []
+          → cond t (lane_before (lane_at m at) (gather_from st m (left - 1) (j + 1))) (halted Damage) ≡ gathered []
       met j at true e = let z : ◌≡◌ {A = ℕ} 0 1 = cc in absurd (omega arith)
       met j at false e = let z : ◌≡◌ {A = ℕ} 0 1 = cc in absurd (omega arith)
 
@@ -334,11 +334,11 @@ module _ (st : State) (m : Lent) (left index : ℕ) (l : 0 < left) where
       ap (λ (k : ℕ). gather_from st m k index) s ∙ go (next_of st m index) e
     where
       met : (j at : ℕ) (t : Bool)
-          → some_lane (cond t (Ok (met_lane j at (key_length m.keys at) (lane_length (header_of m.keys at)))) (Err Damaged))
+          → some_lane (cond t (Ok (met_lane j at (key_length m.keys at) (lane_length (header_of m.keys at)))) (Err Damage))
           ≡ Err k
-          → cond t (lane_before (lane_at m at) (gather_from st m (left - 1) (j + 1))) (halted Damaged) ≡ halted k
+          → cond t (lane_before (lane_at m at) (gather_from st m (left - 1) (j + 1))) (halted Damage) ≡ halted k
       met j at true e = let z : ◌≡◌ {A = ℕ} 0 1 = cc in absurd (omega arith)
-      met j at false e = let z : Damaged ≡ k = cc in ap halted z
+      met j at false e = let z : Damage ≡ k = cc in ap halted z
 
       go : (y : Listed) → on_next_lane y st m ≡ Err k
           → on_listed y st m (λ j. gather_from st m (left - 1) j) ≡ halted k

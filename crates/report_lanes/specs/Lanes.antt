@@ -2,7 +2,7 @@
 -- met, and the first that is damage ends it.
 use Rattle.std.specs.Prelude.{ℕ, zero, suc, ◌+◌, cond, List, [], ◌∷◌, eqb}
 use Rattle.limits.specs.declared.Refusal.{Refusal}
-use Rattle.limits.specs.declared.Refusal.TheVariants.{NotWhole, Damaged}
+use Rattle.limits.specs.declared.Refusal.TheVariants.{NotWhole, Damage}
 use Rattle.records.specs.Record.{key_at, header_of}
 use Rattle.expull_walk.specs.Blocks.{lane_bytes}
 use Rattle.store_state.specs.declared.State.{State}
@@ -28,11 +28,11 @@ lane_at m at = lane (key_at m.keys at) (lane_bytes m.lists (header_of m.keys at)
 
 -- RULES AA4. A listing stops by 2 or 4.
 abbrev pub stopped_by : ℕ → Refusal
-stopped_by n = cond (eqb n 2) NotWhole Damaged
+stopped_by n = cond (eqb n 2) NotWhole Damage
 
 -- RULES AA4. What a question for the next occupied bucket brings.
 abbrev pub on_listed : Listed → State → Lent → (ℕ → Gathered) → Gathered
-on_listed (Bucket i at) st m rest = cond (blocks_sound st m at) (lane_before (lane_at m at) (rest (i + 1))) (halted Damaged)
+on_listed (Bucket i at) st m rest = cond (blocks_sound st m at) (lane_before (lane_at m at) (rest (i + 1))) (halted Damage)
 on_listed NoMore st m rest = gathered []
 on_listed (Stopped n) st m rest = halted (stopped_by n)
 

@@ -14,7 +14,7 @@ use Rattle.store_look.specs.declared.Listed.TheVariants.{Bucket, NoMore, Stopped
 use Rattle.store_look.specs.Look.{Lent, blocks_sound, next_of}
 use Rattle.report_text.specs.Text.{total_of, decimal, lanes_text}
 use Rattle.limits.specs.declared.Refusal.{Refusal}
-use Rattle.limits.specs.declared.Refusal.TheVariants.{Damaged}
+use Rattle.limits.specs.declared.Refusal.TheVariants.{Damage}
 use Rattle.report_lanes.specs.declared.MetLane.{MetLane}
 use Rattle.report_lanes.specs.declared.Sums.{Sums}
 use Rattle.report_lanes.specs.Lanes.{Gathered, gathered, halted, stopped_by}
@@ -27,7 +27,7 @@ unfoldable pub met_of : State → Lent → ℕ → ℕ → Result MetLane Refusa
 unfolding blocks_sound key_length lane_length
 met_of st m i at =
     cond (blocks_sound st m at) (Ok (met_lane i at (key_length m.keys at) (lane_length (header_of m.keys at))))
-    (Err Damaged)
+    (Err Damage)
 
 abbrev pub some_lane : Result MetLane Refusal → Result (Option MetLane) Refusal
 some_lane (Ok a) = Ok (Some a)
@@ -75,16 +75,16 @@ Few (Err k) = Unit {0}
 
 -- what a reading into no output at all tells of a lane: its length, with 8 or as a reading; or damage
 abbrev pub on_outcome : Outcome → Result ℕ Refusal
-on_outcome (Length n) = Err Damaged
+on_outcome (Length n) = Err Damage
 on_outcome (Reading n) = Ok n
-on_outcome (Block p n) = Err Damaged
-on_outcome NoSuchBlock = Err Damaged
+on_outcome (Block p n) = Err Damage
+on_outcome NoSuchBlock = Err Damage
 
 -- RULES AA17. And so of the whole answer.
 abbrev pub on_answer : Answer → Result ℕ Refusal
-on_answer Absent = Err Damaged
+on_answer Absent = Err Damage
 on_answer (Found o) = on_outcome o
-on_answer (Refused k n) = cond (eqb k 8) (Ok n) (Err Damaged)
+on_answer (Refused k n) = cond (eqb k 8) (Ok n) (Err Damage)
 
 -- RULES AA17. The lane of the record at a place was met, and has n bytes.
 pub record Standing (st : State) (m : Lent) (at n : ℕ) : Type 0 where

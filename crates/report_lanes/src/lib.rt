@@ -44,7 +44,7 @@ fn length_told(answer: Answer) -> Result<u64, Refusal>
     match answer {
         Answer::Found(Outcome::Reading(n)) => Ok(n),
         Answer::Refused(8, n) => Ok(n),
-        _ => Err(Refusal::Damaged),
+        _ => Err(Refusal::Damage),
     }
 }
 
@@ -81,7 +81,7 @@ fn stopped(number: u32) -> Refusal
     if number == 2 {
         Refusal::NotWhole
     } else {
-        Refusal::Damaged
+        Refusal::Damage
     }
 }
 

@@ -3,154 +3,105 @@
 // It promises only that it ends and stays in bounds; oracle/report.py made the text that it is held to.
 #![tactic(auto)]
 
-ghost use Rattle.std.specs.Prelude.{◌≤◌, ◌<◌, length};
-
 use limits::Refusal;
 use report::Reported;
+use std::io;
 use store_append::Appended;
 use store_state::State;
 
-// The descriptor of standard output.
-const STDOUT_FILENO: i32 = 1;
-
-fn say(text: &[u8]) {
-    io::write_all(STDOUT_FILENO, text);
-}
-
-fn say_two(word: &[u8], a: u64, b: u64) {
-    say(word);
-    say(b" ");
-    io::print_decimal(STDOUT_FILENO, a);
-    say(b" ");
-    io::print_decimal(STDOUT_FILENO, b);
-    say(b"\n");
-}
-
-fn say_refused(why: Refusal, told: u64) {
-    say_two(b"refused", u64::from(why.number()), told);
-}
-
-fn tell_check(text: &[u8]) {
+fn tell_check(out: &impl Print, text: &[u8]) -> io::Result<()> {
     match report_read::check::check(text) {
-        Ok(read) => {
-            say_two(b"lanes", read.lanes, read.bytes);
-        }
-        Err(bad) => {
-            say_refused(Refusal::NoReport, bad.line);
-        }
+        Ok(read) => println!(out; "lanes {} {}", read.lanes, read.bytes),
+        Err(bad) => println!(out; "refused {} {}", Refusal::NoReport.number(), bad.line),
     }
 }
 
-// A part of a text, where it lies in it.
-fn say_part(text: &[u8], from: usize, n: usize) {
-    if from <= text.len() {
-        if n <= text.len() - from {
-            let to = from + n;
-            say(&text[from..to]);
-        }
-    }
-}
-
-fn say_bytes(k: u64, first: u8) {
-    say_two(b"bytes", k, first as u64);
+// The n bytes of a text from a place on; none where they don't all lie in it.
+fn part(text: &[u8], from: usize, n: usize) -> &[u8] {
+    text.get(from..)
+        .and_then(|rest| rest.get(..n))
+        .unwrap_or(b"")
 }
 
 // How many bytes a part of a text stands for, and the first of them.
-fn tell_bytes(text: &[u8], from: usize, n: usize) {
-    let mut room = [0u8; 16];
-    if from <= text.len() {
-        if n <= text.len() - from {
-            let to = from + n;
-            match report_read::unhex::unhex(&text[from..to], &mut room) {
-                Ok(Some(k)) => {
-                    say_bytes(k, room[0]);
-                }
-                Ok(None) => {
-                    say(b"no hex\n");
-                }
-                Err(short) => {
-                    say_refused(Refusal::OutputTooShort, short.needed);
-                }
-            }
+fn tell_bytes(out: &impl Print, hex: &[u8]) -> io::Result<()> {
+    let mut room = [0; 16];
+    match report_read::unhex::unhex(hex, &mut room) {
+        Ok(Some(k)) => {
+            let first = room[0];
+            println!(out; "bytes {k} {first}")
         }
+        Ok(None) => println!(out; "no hex"),
+        Err(short) => println!(out; "refused {} {}", Refusal::OutputTooShort.number(), short.needed),
     }
 }
 
-fn tell_lane(text: &[u8], index: u64) {
+fn tell_lane(out: &impl Print, text: &[u8], index: u64) -> io::Result<()> {
     match report_read::pick::pick_lane(text, index) {
         Ok(Some(lane)) => {
-            say(b"lane ");
-            say_part(text, lane.name, lane.name_length);
-            say(b" ");
-            say_part(text, lane.bytes, lane.bytes_length);
-            say(b"\n");
-            tell_bytes(text, lane.bytes, lane.bytes_length);
+            let hex = part(text, lane.bytes, lane.bytes_length);
+            print!(out; "lane ")?;
+            out.write_all(part(text, lane.name, lane.name_length))?;
+            print!(out; " ")?;
+            out.write_all(hex)?;
+            println!(out)?;
+            tell_bytes(out, hex)
         }
-        Ok(None) => {
-            say(b"no such lane\n");
-        }
-        Err(bad) => {
-            say_refused(Refusal::NoReport, bad.line);
-        }
+        Ok(None) => println!(out; "no such lane"),
+        Err(bad) => println!(out; "refused {} {}", Refusal::NoReport.number(), bad.line),
     }
 }
 
 // The front of the output, as much as was written.
-fn show(output: &[u8], n: u64) {
-    if n <= (output.len() as u64) {
-        let k = n as usize;
-        say(&output[0..k]);
-        tell_check(&output[0..k]);
-        tell_lane(&output[0..k], 0);
+fn show(out: &impl Print, output: &[u8], n: u64) -> io::Result<()> {
+    if (output.len() as u64) < n {
+        return Ok(());
+    }
+    let text = &output[..n as usize];
+    out.write_all(text)?;
+    tell_check(out, text)?;
+    tell_lane(out, text, 0)
+}
+
+fn print_report(
+    out: &impl Print,
+    st: State,
+    table: &[u32],
+    keys: &[u8],
+    lists: &[u8],
+    output: &mut [u8],
+) -> io::Result<()> {
+    match report::report(st, table, keys, lists, output) {
+        Reported::Written(n) => show(out, output, n),
+        Reported::Refused(k, n) => println!(out; "refused {k} {n}"),
     }
 }
 
-fn print(st: State, table: &[u32], keys: &[u8], lists: &[u8], output: &mut [u8]) {
-    let r = report::report(st, table, keys, lists, output);
-    match r {
-        Reported::Written(n) => {
-            show(output, n);
-        }
-        Reported::Refused(k, n) => {
-            say_two(b"refused", k as u64, n);
-        }
-    }
-}
-
-// Into an output that is too short.
-fn print_short(st: State, table: &[u32], keys: &[u8], lists: &[u8], output: &mut [u8]) {
-    if 10 <= output.len() {
-        print(st, table, keys, lists, &mut output[0..10]);
-    }
-}
-
-fn finish(st: State, table: &[u32], keys: &[u8], lists: &[u8], output: &mut [u8]) {
-    print(st, table, keys, lists, output);
-    print_short(st, table, keys, lists, output);
-}
-
-fn go_on(st: State, table: &mut [u32], keys: &mut [u8], lists: &mut [u8], output: &mut [u8]) {
+fn play(
+    out: &impl Print,
+    table: &mut [u32],
+    keys: &mut [u8],
+    lists: &mut [u8],
+    output: &mut [u8; 256],
+) -> io::Result<()> {
+    let Ok(st) = store_create::create(1, 7, limits::PAGE_SIZE, table, keys, lists) else {
+        return Ok(());
+    };
+    print_report(out, st, table, keys, lists, output)?;
     let added = store_append::append(st, table, keys, lists, b"A", b"\x01\x02\x03");
-    let answer = added.answer;
-    let Appended::Accepted(next) = answer else {
-        return;
+    let Appended::Accepted(next) = added.answer else {
+        return Ok(());
     };
-    finish(next, table, keys, lists, output);
+    print_report(out, next, table, keys, lists, output)?;
+    // an output that is too short
+    print_report(out, next, table, keys, lists, &mut output[..10])
 }
 
-fn play(table: &mut [u32], keys: &mut [u8], lists: &mut [u8], output: &mut [u8]) {
-    let made = store_create::create(1, 7, limits::PAGE_SIZE, table, keys, lists);
-    let Ok(st) = made else {
-        return;
-    };
-    print(st, table, keys, lists, output);
-    go_on(st, table, keys, lists, output);
-}
-
-fn main() {
-    let mut table = [7u32; 18];
-    let mut keys = [7u8; 64];
-    let mut lists = [7u8; 64];
-    let mut output = [0u8; 256];
-    play(&mut table, &mut keys, &mut lists, &mut output);
+fn main(rt: HostRuntime) {
+    let mut table = [7; 18];
+    let mut keys = [7; 64];
+    let mut lists = [7; 64];
+    let mut output = [0; 256];
+    // where nothing can be printed, nobody is left to tell
+    let _ = play(&rt, &mut table, &mut keys, &mut lists, &mut output);
 }

@@ -1,34 +1,49 @@
-// Why a line can't be read: one number each. Library say has the text that each is answered with.
-pub const NOT_A_NUMBER: u32 = 1;
+// Why a line can't be played, with the text that it is answered with.
+use std::error::Error;
+use std::fmt;
 
-pub const TOO_LARGE: u32 = 2;
-
-pub const NOT_BYTES: u32 = 3;
-
-pub const BYTES_TOO_LONG: u32 = 4;
-
-pub const OUTPUT_TOO_LONG: u32 = 5;
-
-pub const PAST_THE_END: u32 = 6;
-
-pub const NO_SUCH_AREA: u32 = 7;
-
-pub const NO_SUCH_FIELD: u32 = 8;
-
-pub const NO_MEMORY: u32 = 9;
-
-pub const LINE_TOO_LONG: u32 = 10;
-
-pub const UNKNOWN: u32 = 11;
-
-pub const TOO_MANY_PLACES: u32 = 12;
-
-pub const NOT_FOUR_BYTES: u32 = 13;
-
-// The first of two faults, 0 where there is none.
-pub fn first(a: u32, b: u32) -> u32 {
-    if a != 0 {
-        return a;
-    }
-    b
+#[derive(Clone, Copy, Debug, PartialEq, Eq)]
+pub enum Fault {
+    NotANumber,
+    TooLarge,
+    NotBytes,
+    BytesTooLong,
+    OutputTooLong,
+    PastTheEnd,
+    NoSuchArea,
+    NoSuchField,
+    NoMemory,
+    LineTooLong,
+    UnknownCommand,
+    TooManyPlaces,
+    NotFourBytes,
+    // more or fewer words than the command takes, which is written so
+    Usage(&'static str),
 }
+
+impl fmt::Display for Fault {
+    fn fmt<W: fmt::Write>(&self, f: &mut fmt::Formatter<W>) -> fmt::Result {
+        match self {
+            Fault::NotANumber => f.write_str("not a number"),
+            Fault::TooLarge => f.write_str("number too large"),
+            Fault::NotBytes => f.write_str(
+                "not bytes: hex pairs, - or N*HH joined by +, or ' and a name",
+            ),
+            Fault::BytesTooLong => f.write_str("bytes too long: at most 262144"),
+            Fault::OutputTooLong => f.write_str("output too long: at most 1048576"),
+            Fault::PastTheEnd => f.write_str("past the end"),
+            Fault::NoSuchArea => f.write_str("no such area: table, keys or lists"),
+            Fault::NoSuchField => f.write_str("no such field"),
+            Fault::NoMemory => f.write_str(
+                "no such memory: at most 131072 words, 2097152 and 3145728 bytes",
+            ),
+            Fault::LineTooLong => f.write_str("line too long"),
+            Fault::UnknownCommand => f.write_str("unknown command"),
+            Fault::TooManyPlaces => f.write_str("too many places: at most 16384"),
+            Fault::NotFourBytes => f.write_str("not four bytes"),
+            Fault::Usage(written) => write!(f, "usage: {written}"),
+        }
+    }
+}
+
+impl Error for Fault {}

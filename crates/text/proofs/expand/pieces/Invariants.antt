@@ -1,12 +1,8 @@
--- The invariant: the bytes so far lie in the area, which keeps its length. The measure is what is left of the word.
--- Assumes nothing.
-use lib.ListN.{length}
-use mathlib.Core.Path.{◌≡◌}
-use Prim.Native.Nat.{◌≤◌, ◌-◌, ◌+◌}
+-- The bytes so far lie in the area, which keeps its length. Assumes nothing.
+use Rattle.std.proofs.Common.{◌≡◌, ◌≤◌, length}
 use Rattle.text.proofs.expand.pieces.Given as goal
 
-abbrev pub invariant-loop-at : goal.invariant-loop-at
-invariant-loop-at l = (l.at ≤ length l.joined + 1) × ((l.n ≤ length l.into) × (length l.into ≡ length l.initial.into))
-
-abbrev pub decreases-loop-at : goal.decreases-loop-at
-decreases-loop-at l = length l.joined + 1 - l.at
+abbrev pub invariant-loop-word : goal.invariant-loop-word
+invariant-loop-word l =
+    (goal.iterator-loop-word).can_next l.word-iterator ×
+    (goal.iterator-loop-word).is_finite l.word-iterator × (l.n ≤ length l.into) × (length l.into ≡ length l.initial.into)
