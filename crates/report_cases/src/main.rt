@@ -3,98 +3,58 @@
 // feeds it, and the answers. It promises only that it ends and stays in bounds.
 #![tactic(auto)]
 
-ghost use Rattle.std.specs.Prelude.{◌≤◌, ◌<◌, length};
+use std::io;
+use std::io::Read;
 
-// The descriptor of standard input.
-const STDIN_FILENO: i32 = 0;
+// The most texts, and the most bytes of a text's length with its newline.
+const MOST_TEXTS: u64 = 1000000;
 
-// A text's length, where one follows.
-#[derive(Clone, Copy)]
-struct Size {
-    there: bool,
-    bytes: u64,
+const MOST_DIGITS: usize = 20;
+
+// A number with one more digit, kept below 2^40: no text is longer. Of a byte only the remainder modulo 10 counts, so
+// that it needs no test.
+fn with_digit(value: u64, b: u8) -> u64 {
+    value % 100000000000 * 10 + (u64::from(b) + 2) % 10
 }
 
-// The digit that a byte stands for; only the remainder modulo 10 counts, so that it needs no test.
-fn digit(b: u8) -> u64
-    ensures { result < 10 }
-{
-    ((b as u64) + 2) % 10
-}
-
-// One more digit, kept below 2^40: no text is longer.
-fn more(value: u64, d: u64) -> u64
-    requires { d < 10 }
-{
-    (value % 100000000000) * 10 + d
-}
-
-fn next_size() -> Size {
-    let mut one = [0u8; 1];
-    let mut bytes: u64 = 0;
-    let mut left: u64 = 20;
-    while 0 < left {
-        let got = io::read_full(STDIN_FILENO, &mut one);
-        if got == 0 {
-            return Size {
-                there: false,
-                bytes: 0,
-            };
+// The length of the next text, if one follows.
+fn next_size<R: Read>(input: &mut R) -> Option<u64> {
+    let mut bytes = 0;
+    for b in input.bytes().take(MOST_DIGITS) {
+        match b.ok()? {
+            b'\n' => return Some(bytes),
+            b => bytes = with_digit(bytes, b),
         }
-        let b = one[0];
-        if b == 10 {
-            return Size { there: true, bytes };
-        }
-        bytes = more(bytes, digit(b));
-        left -= 1;
     }
-    Size {
-        there: false,
-        bytes: 0,
+    None
+}
+
+// The line of a text of n bytes.
+fn one_text<R: Read>(out: &impl Print, input: &mut R, area: &mut [u8], n: u64) -> io::Result<()> {
+    if (area.len() as u64) < n {
+        let _ = io::copy(&mut input.take(n), &mut io::sink());
+        return println!(out; "long");
+    }
+    let text = &mut area[..n as usize];
+    match input.read_exact(text) {
+        Ok(()) => report_say::tell(out, text),
+        Err(_) => println!(out; "cut short"),
     }
 }
 
-// Reads bytes that don't count.
-fn skip(n: u64) {
-    let mut one = [0u8; 1];
-    let mut left = n;
-    while 0 < left {
-        io::read_full(STDIN_FILENO, &mut one);
-        left -= 1;
+fn run<R: Input + Print>(rt: &R, area: &mut [u8]) -> io::Result<()> {
+    let mut input = rt.reader();
+    for _ in 0..MOST_TEXTS {
+        let Some(n) = next_size(&mut input) else {
+            break;
+        };
+        one_text(rt, &mut input, area, n)?;
     }
+    Ok(())
 }
 
-fn one_text(text: &mut [u8], n: u64) {
-    let room = text.len() as u64;
-    if room < n {
-        io::read_full(STDIN_FILENO, text);
-        skip(n - room);
-        report_say::say(b"long\n");
-        return;
-    }
-    let k = n as usize;
-    let got = io::read_full(STDIN_FILENO, &mut text[0..k]);
-    if got < k {
-        report_say::say(b"cut short\n");
-        return;
-    }
-    report_say::tell(&text[0..k]);
-}
-
-// At most so many texts.
-fn all(text: &mut [u8], most: u64) {
-    let mut left = most;
-    while 0 < left {
-        let size = next_size();
-        if !size.there {
-            return;
-        }
-        one_text(text, size.bytes);
-        left -= 1;
-    }
-}
-
-fn main() {
-    let mut text = io::large_buffer();
-    all(&mut text, 1000000);
+fn main(rt: HostRuntime) {
+    let mut area = [0; 65536];
+    // where nothing can be printed, nobody is left to tell
+    let _ = run(&rt, &mut area);
 }

@@ -3,27 +3,36 @@
 // proved of `report_read::check::check`. A read that fails counts as the input's end.
 #![tactic(auto)]
 
-// The descriptor of standard input.
-const STDIN_FILENO: i32 = 0;
+ghost use Rattle.std.specs.Prelude.{◌≤◌, length};
 
-// Whether a byte more can be read.
-fn is_more() -> bool {
-    let mut one = [0u8; 1];
-    0 < io::read_full(STDIN_FILENO, &mut one)
-}
+use std::io;
+use std::io::Read;
 
-fn run(text: &[u8]) {
-    if text.len() == 65536 {
-        if is_more() {
-            report_say::say(b"long\n");
-            return;
+// Reads until the area is full or the input ends, and tells how much of it is read.
+fn read_full<R: Read>(input: &mut R, area: &mut [u8]) -> usize
+    ensures { result ≤ length area.old }
+{
+    let mut n = 0;
+    for _ in 0..u64::MAX {
+        match input.read(&mut area[n..]) {
+            Ok(0) | Err(_) => break,
+            Ok(more) => n += more,
         }
     }
-    report_say::tell(text);
+    n
 }
 
-fn main() {
-    let mut text = io::large_buffer();
-    let n = io::read_full(STDIN_FILENO, &mut text);
-    run(&text[..n]);
+fn run<R: Input + Print>(rt: &R, area: &mut [u8]) -> io::Result<()> {
+    let mut input = rt.reader();
+    let n = read_full(&mut input, area);
+    if n == area.len() && 0 < read_full(&mut input, &mut [0]) {
+        return println!(rt; "long");
+    }
+    report_say::tell(rt, &area[..n])
+}
+
+fn main(rt: HostRuntime) {
+    let mut area = [0; 65536];
+    // where nothing can be printed, nobody is left to tell
+    let _ = run(&rt, &mut area);
 }

@@ -3,156 +3,108 @@
 // It promises only that it ends and stays in bounds; oracle/report.py made the text that it is held to.
 #![tactic(auto)]
 
-ghost use Rattle.std.specs.Prelude.{◌≤◌, ◌<◌, length};
-
 use report::Reported;
 use report_read::check::Checked;
 use report_read::pick::Picked;
 use report_read::unhex::Unhexed;
+use std::io;
 use store_append::Appended;
 use store_create::Created;
 use store_state::State;
 
-// The descriptor of standard output.
-const STDOUT_FILENO: i32 = 1;
-
-fn say(text: &[u8]) {
-    io::write_all(STDOUT_FILENO, text);
-}
-
-fn say_two(word: &[u8], a: u64, b: u64) {
-    say(word);
-    say(b" ");
-    io::print_decimal(STDOUT_FILENO, a);
-    say(b" ");
-    io::print_decimal(STDOUT_FILENO, b);
-    say(b"\n");
-}
-
-fn tell_check(text: &[u8]) {
-    let c = report_read::check::check(text);
-    match c {
-        Checked::Lanes(lanes, bytes) => {
-            say_two(b"lanes", lanes, bytes);
-        }
-        Checked::Refused(k, n) => {
-            say_two(b"refused", k as u64, n);
-        }
+fn tell_check(out: &impl Print, text: &[u8]) -> io::Result<()> {
+    match report_read::check::check(text) {
+        Checked::Lanes(lanes, bytes) => println!(out; "lanes {lanes} {bytes}"),
+        Checked::Refused(k, n) => println!(out; "refused {k} {n}"),
     }
 }
 
-// A part of a text, where it lies in it.
-fn say_part(text: &[u8], from: usize, n: usize) {
-    if from <= text.len() {
-        if n <= text.len() - from {
-            let to = from + n;
-            say(&text[from..to]);
-        }
-    }
-}
-
-fn say_bytes(k: u64, first: u8) {
-    say_two(b"bytes", k, first as u64);
+// The n bytes of a text from a place on; none where they don't all lie in it.
+fn part(text: &[u8], from: usize, n: usize) -> &[u8] {
+    text.get(from..)
+        .and_then(|rest| rest.get(..n))
+        .unwrap_or(b"")
 }
 
 // How many bytes a part of a text stands for, and the first of them.
-fn tell_bytes(text: &[u8], from: usize, n: usize) {
-    let mut room = [0u8; 16];
-    if from <= text.len() {
-        if n <= text.len() - from {
-            let to = from + n;
-            let u = report_read::unhex::unhex(&text[from..to], &mut room);
-            match u {
-                Unhexed::Bytes(k) => {
-                    say_bytes(k, room[0]);
-                }
-                Unhexed::NoHex => {
-                    say(b"no hex\n");
-                }
-                Unhexed::Short(k, needed) => {
-                    say_two(b"refused", k as u64, needed);
-                }
-            }
+fn tell_bytes(out: &impl Print, hex: &[u8]) -> io::Result<()> {
+    let mut room = [0; 16];
+    match report_read::unhex::unhex(hex, &mut room) {
+        Unhexed::Bytes(k) => {
+            let first = room[0];
+            println!(out; "bytes {k} {first}")
         }
+        Unhexed::NoHex => println!(out; "no hex"),
+        Unhexed::Short(k, needed) => println!(out; "refused {k} {needed}"),
     }
 }
 
-fn tell_lane(text: &[u8], index: u64) {
-    let p = report_read::pick::pick_lane(text, index);
-    match p {
+fn tell_lane(out: &impl Print, text: &[u8], index: u64) -> io::Result<()> {
+    match report_read::pick::pick_lane(text, index) {
         Picked::Lane(name, k, bytes, n) => {
-            say(b"lane ");
-            say_part(text, name, k);
-            say(b" ");
-            say_part(text, bytes, n);
-            say(b"\n");
-            tell_bytes(text, bytes, n);
+            let hex = part(text, bytes, n);
+            print!(out; "lane ")?;
+            out.write_all(part(text, name, k))?;
+            print!(out; " ")?;
+            out.write_all(hex)?;
+            println!(out)?;
+            tell_bytes(out, hex)
         }
-        Picked::NoSuchLane => {
-            say(b"no such lane\n");
-        }
-        Picked::Unread(k, line) => {
-            say_two(b"refused", k as u64, line);
-        }
+        Picked::NoSuchLane => println!(out; "no such lane"),
+        Picked::Unread(k, line) => println!(out; "refused {k} {line}"),
     }
 }
 
 // The front of the output, as much as was written.
-fn show(output: &[u8], n: u64) {
-    if n <= (output.len() as u64) {
-        let k = n as usize;
-        say(&output[0..k]);
-        tell_check(&output[0..k]);
-        tell_lane(&output[0..k], 0);
+fn show(out: &impl Print, output: &[u8], n: u64) -> io::Result<()> {
+    if (output.len() as u64) < n {
+        return Ok(());
+    }
+    let text = &output[..n as usize];
+    out.write_all(text)?;
+    tell_check(out, text)?;
+    tell_lane(out, text, 0)
+}
+
+fn print_report(
+    out: &impl Print,
+    st: State,
+    table: &[u32],
+    keys: &[u8],
+    lists: &[u8],
+    output: &mut [u8],
+) -> io::Result<()> {
+    match report::report(st, table, keys, lists, output) {
+        Reported::Written(n) => show(out, output, n),
+        Reported::Refused(k, n) => println!(out; "refused {k} {n}"),
     }
 }
 
-fn print(st: State, table: &[u32], keys: &[u8], lists: &[u8], output: &mut [u8]) {
-    let r = report::report(st, table, keys, lists, output);
-    match r {
-        Reported::Written(n) => {
-            show(output, n);
-        }
-        Reported::Refused(k, n) => {
-            say_two(b"refused", k as u64, n);
-        }
-    }
-}
-
-// Into an output that is too short.
-fn print_short(st: State, table: &[u32], keys: &[u8], lists: &[u8], output: &mut [u8]) {
-    if 10 <= output.len() {
-        print(st, table, keys, lists, &mut output[0..10]);
-    }
-}
-
-fn finish(st: State, table: &[u32], keys: &[u8], lists: &[u8], output: &mut [u8]) {
-    print(st, table, keys, lists, output);
-    print_short(st, table, keys, lists, output);
-}
-
-fn go_on(st: State, table: &mut [u32], keys: &mut [u8], lists: &mut [u8], output: &mut [u8]) {
+fn play(
+    out: &impl Print,
+    table: &mut [u32],
+    keys: &mut [u8],
+    lists: &mut [u8],
+    output: &mut [u8; 256],
+) -> io::Result<()> {
+    let Created::Made(st) = store_create::create(1, 7, limits::PAGE_SIZE, table, keys, lists) else {
+        return Ok(());
+    };
+    print_report(out, st, table, keys, lists, output)?;
     let added = store_append::append(st, table, keys, lists, b"A", b"\x01\x02\x03");
-    let answer = added.answer;
-    let Appended::Accepted(next) = answer else {
-        return;
+    let Appended::Accepted(next) = added.answer else {
+        return Ok(());
     };
-    finish(next, table, keys, lists, output);
+    print_report(out, next, table, keys, lists, output)?;
+    // an output that is too short
+    print_report(out, next, table, keys, lists, &mut output[..10])
 }
 
-fn play(table: &mut [u32], keys: &mut [u8], lists: &mut [u8], output: &mut [u8]) {
-    let made = store_create::create(1, 7, limits::PAGE_SIZE, table, keys, lists);
-    let Created::Made(st) = made else {
-        return;
-    };
-    print(st, table, keys, lists, output);
-    go_on(st, table, keys, lists, output);
-}
-
-fn main() {
-    let mut table = [7u32; 18];
-    let mut keys = [7u8; 64];
-    let mut lists = [7u8; 64];
-    let mut output = [0u8; 256];
-    play(&mut table, &mut keys, &mut lists, &mut output);
+fn main(rt: HostRuntime) {
+    let mut table = [7; 18];
+    let mut keys = [7; 64];
+    let mut lists = [7; 64];
+    let mut output = [0; 256];
+    // where nothing can be printed, nobody is left to tell
+    let _ = play(&rt, &mut table, &mut keys, &mut lists, &mut output);
 }

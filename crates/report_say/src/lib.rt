@@ -1,28 +1,15 @@
-// What the report's programs print of a text: ok, bad N with the first bad line, or long (document 02, One).
+// What the report's programs print of a text: ok, or bad N with the first bad line (document 02, One).
 //
 // What is said of the bytes is proved of `report_read::check::check`; that it is printed isn't.
 #![tactic(auto)]
 
 use report_read::check::Checked;
-
-// The descriptor of standard output.
-const STDOUT_FILENO: i32 = 1;
-
-pub fn say(text: &[u8]) {
-    io::write_all(STDOUT_FILENO, text);
-}
+use std::io;
 
 // The line of a text that was read whole.
-pub fn tell(text: &[u8]) {
-    let c = report_read::check::check(text);
-    match c {
-        Checked::Lanes(_, _) => {
-            say(b"ok\n");
-        }
-        Checked::Refused(_, n) => {
-            say(b"bad ");
-            io::print_decimal(STDOUT_FILENO, n);
-            say(b"\n");
-        }
+pub fn tell(out: &impl Print, text: &[u8]) -> io::Result<()> {
+    match report_read::check::check(text) {
+        Checked::Lanes(_, _) => println!(out; "ok"),
+        Checked::Refused(_, n) => println!(out; "bad {n}"),
     }
 }

@@ -32,15 +32,17 @@ pub fn find<C: Copy>(table: &[(C, &'static str)], line: Line<'_>) -> Result<Opti
         return Err(Fault::LineTooLong);
     }
     let name = word(line.bytes, 0);
-    for (command, written) in table {
-        if word(written.as_bytes(), 0) == name {
-            if has_words(line.bytes, written.as_bytes()) {
-                return Ok(Some(*command));
-            }
-            return Err(Fault::Usage(*written));
-        }
+    let Some((command, written)) = table
+        .iter()
+        .find(|(_, written)| word(written.as_bytes(), 0) == name)
+    else {
+        return Err(Fault::UnknownCommand);
+    };
+    if has_words(line.bytes, written.as_bytes()) {
+        Ok(Some(*command))
+    } else {
+        Err(Fault::Usage(*written))
     }
-    Err(Fault::UnknownCommand)
 }
 
 // Says how all commands are written, each as a line that begins with `# `.
