@@ -1,132 +1,59 @@
-// One store of the testbench and the memory that is lent to it: its commands.
+// One store of the testbench: its state and the memory for it, of which a part is lent: lend.
 //
-// It promises that each command ends and stays inside the areas, whatever the line, the state and the memory are; what
-// the calls answer, the crates below promise. It uses numbers, text, say, the libraries of the commands, and
-// memory_arena and store_state for the state.
+// It promises that each call ends and stays inside the areas, whatever the line, the state and the memory are. It uses
+// text, bench_state, bench_areas, and memory_arena and store_state for the state.
 #![tactic(auto)]
 
-use bench_state::Played;
+use bench_areas::Lent;
 use store_state::State;
-use text::fault;
+use text::fault::Fault;
+use text::words;
 
-// What the testbench remembers of a store between lines: its state, the walk that the last call by name told, which is
-// one for both stores, and how much of each area is lent.
-#[derive(Clone, Copy)]
-pub struct Bench {
-    pub st: State,
-    pub walk: usize,
+// A store, and how much of each of its areas is lent.
+#[derive(Drop)]
+pub struct Store<const W: usize, const K: usize, const L: usize> {
+    pub state: State,
+    pub table: [u32; W],
+    pub keys: [u8; K],
+    pub lists: [u8; L],
     pub words: usize,
     pub key_bytes: usize,
     pub list_bytes: usize,
 }
 
-// Before anything is lent.
-pub fn fresh() -> Bench {
-    Bench {
-        st: bench_state::zeros(),
-        walk: 0,
-        words: 0,
-        key_bytes: 0,
-        list_bytes: 0,
+impl<const W: usize, const K: usize, const L: usize> Store<W, K, L> {
+    // The store as its commands have it.
+    pub fn lent(&mut self) -> Lent<'_> {
+        let words = self.words.min(W);
+        let key_bytes = self.key_bytes.min(K);
+        let list_bytes = self.list_bytes.min(L);
+        Lent {
+            state: &mut self.state,
+            table: &mut self.table[..words],
+            keys: &mut self.keys[..key_bytes],
+            lists: &mut self.lists[..list_bytes],
+        }
     }
-}
 
-// Why nothing was lent; the second store's memory is smaller.
-fn say_unlent(n: u32, is_second: bool) {
-    if is_second & (n == fault::NO_MEMORY) {
-        return say::line(b"? no such memory: at most 4096 words, 196608 and 327680 bytes");
+    // `lend WORDS KEYBYTES LISTBYTES HH`: the first parts of the memory, filled with a byte. The state is of zeros then.
+    pub fn lend(&mut self, line: &[u8]) -> Result<(), Fault> {
+        let [words, key_bytes, list_bytes] = words::numbers_at::<3>(line)?;
+        let filler = words::byte_at(line, 4)?;
+        if (W as u64) < words || (K as u64) < key_bytes || (L as u64) < list_bytes {
+            return Err(Fault::NoMemory {
+                words: W,
+                key_bytes: K,
+                list_bytes: L,
+            });
+        }
+        self.state = bench_state::zeros();
+        self.words = words as usize;
+        self.key_bytes = key_bytes as usize;
+        self.list_bytes = list_bytes as usize;
+        let lent = self.lent();
+        lent.table.fill(u32::from_le_bytes([filler; 4]));
+        lent.keys.fill(filler);
+        lent.lists.fill(filler);
+        Ok(())
     }
-    say::fault(n)
-}
-
-// `lend WORDS KEYBYTES LISTBYTES HH`: the state is of zeros then.
-fn lend(
-    b: Bench,
-    is_second: bool,
-    line: &[u8],
-    table: &mut [u32],
-    keys: &mut [u8],
-    lists: &mut [u8],
-) -> Bench {
-    let p = bench_areas::lend(line, table, keys, lists);
-    if p.fault != 0 {
-        say_unlent(p.fault, is_second);
-        return b;
-    }
-    say::line(b"lent");
-    Bench {
-        st: bench_state::zeros(),
-        walk: 0,
-        words: p.words,
-        key_bytes: p.key_bytes,
-        list_bytes: p.list_bytes,
-    }
-}
-
-// What a command left of a store.
-pub fn with_played(b: Bench, played: Played) -> Bench {
-    let st = played.st;
-    let mut next = b;
-    next.st = st;
-    next.walk = played.walk;
-    next
-}
-
-// A command on what is lent of a store's memory.
-fn play_lent(
-    b: Bench,
-    k: u64,
-    line: &[u8],
-    table: &mut [u32],
-    keys: &mut [u8],
-    lists: &mut [u8],
-    name: &mut [u8],
-    output: &mut [u8],
-) -> Bench {
-    let st = b.st;
-    let walk = b.walk;
-    let words = numbers::least(b.words, table.len());
-    let key_bytes = numbers::least(b.key_bytes, keys.len());
-    let list_bytes = numbers::least(b.list_bytes, lists.len());
-    let next = bench_one::play(
-        k,
-        walk,
-        st,
-        line,
-        &mut table[0..words],
-        &mut keys[0..key_bytes],
-        &mut lists[0..list_bytes],
-        name,
-        output,
-    );
-    with_played(b, next)
-}
-
-// A command on one store.
-pub fn play(
-    b: Bench,
-    is_second: bool,
-    k: u64,
-    line: &[u8],
-    table: &mut [u32],
-    keys: &mut [u8],
-    lists: &mut [u8],
-    name: &mut [u8],
-    output: &mut [u8],
-) -> Bench {
-    if k == 1 {
-        return lend(b, is_second, line, table, keys, lists);
-    }
-    if k == 3 {
-        say::number(b"walk ", b.walk as u64);
-        return b;
-    }
-    play_lent(b, k, line, table, keys, lists, name, output)
-}
-
-// The same store with another walk told.
-pub fn with_walk(b: Bench, walk: usize) -> Bench {
-    let mut next = b;
-    next.walk = walk;
-    next
 }

@@ -3,223 +3,187 @@
 //
 // Each reads its words, makes one call and says what it answered. It promises that it ends and stays inside what is
 // lent, whatever the line and the memory are; what the calls answer, the crates below promise. It uses limits, fastcmp,
-// fastcpy, murmurhash2, vint, memory_arena, text and say.
+// fastcpy, murmurhash2, vint, memory_arena, text, say and bench_areas.
 #![tactic(auto)]
 
-ghost use Rattle.std.specs.Prelude.{◌≤◌, length};
+ghost use Rattle.std.specs.Prelude.{◌≤◌, length, IfOk};
 
+use bench_areas::{Scratch, bytes_at, room_at};
 use limits::Refusal;
 use memory_arena::{Arena, Room};
-use text::words::{Number, Taken};
-use text::{fault, words};
-use vint::Unvint;
+use say::{Hex, Unanswered};
+use std::io;
+use text::fault::Fault;
+use text::words;
+use vint::Read;
 
-fn say_hash(bytes: &[u8], seed: u32) {
-    say::number(b"hash ", murmurhash2::murmurhash2(bytes, seed) as u64)
+#[derive(Clone, Copy)]
+pub enum Command {
+    Hash,
+    Vint,
+    Unvint,
+    Equal,
+    Copy,
+    Allocate,
+    Get,
+    Put,
 }
 
 // `hash SEED BYTES`
-fn hash(line: &[u8], name: &mut [u8]) {
-    let seed = words::number_at(line, 1);
-    let got = words::bytes(line, 2, name);
-    let wide = fault::first(seed.fault, words::beyond_32(seed.value));
-    let fault = fault::first(wide, got.fault);
-    if fault != 0 {
-        return say::fault(fault);
-    }
-    let n = got.n;
-    say_hash(&name[0..n], words::low_32(seed.value))
-}
-
-fn say_front(bytes: &[u8], n: usize) {
-    if n <= bytes.len() {
-        say::bytes_line(&bytes[0..n]);
-    }
+fn hash(line: &[u8], scratch: &mut Scratch, out: &impl Print) -> Result<(), Unanswered> {
+    let seed = words::u32_at(line, 1)?;
+    let bytes = bytes_at(line, 2, &mut scratch.name)?;
+    let hash = murmurhash2::murmurhash2(bytes, seed);
+    Ok(println!(out; "hash {hash}")?)
 }
 
 // `vint N`
-fn vint(line: &[u8]) {
-    let n = words::number_at(line, 1);
-    let fault = fault::first(n.fault, words::beyond_32(n.value));
-    if fault != 0 {
-        return say::fault(fault);
-    }
-    let v = vint::serialize_vint_u32(words::low_32(n.value));
-    let bytes = v.bytes;
-    let count = v.count;
-    say::text(b"vint ");
-    say_front(&bytes, count);
+fn vint(line: &[u8], out: &impl Print) -> Result<(), Unanswered> {
+    let v = vint::serialize_vint_u32(words::u32_at(line, 1)?);
+    let bytes = &v.bytes[..v.count.min(v.bytes.len())];
+    Ok(println!(out; "vint {}", Hex(bytes))?)
 }
 
-fn say_unvint(u: Unvint) {
-    match u {
-        Unvint::Number(n, taken) => {
-            say::told(b"number ", n as u64);
-            say::number(b" taken ", taken as u64)
-        }
-        Unvint::Refused(n) => say::refused(n),
+fn say_unvint(read: Result<Read, Refusal>, out: &impl Print) -> io::Result<()> {
+    match read {
+        Ok(read) => println!(out; "number {} taken {}", read.n, read.taken),
+        Err(why) => say::refused(out, why.number()),
     }
 }
 
 // `unvint BYTES`
-fn unvint(line: &[u8], name: &mut [u8]) {
-    let got = words::bytes(line, 1, name);
-    if got.fault != 0 {
-        return say::fault(got.fault);
-    }
-    let n = got.n;
-    say_unvint(vint::read_u32_vint(&name[0..n]))
-}
-
-fn say_equal(a: &[u8], b: &[u8]) {
-    if fastcmp::fast_short_slice_compare(a, b) {
-        return say::line(b"equal");
-    }
-    say::line(b"different")
+fn unvint(line: &[u8], scratch: &mut Scratch, out: &impl Print) -> Result<(), Unanswered> {
+    let bytes = bytes_at(line, 1, &mut scratch.name)?;
+    Ok(say_unvint(vint::read_u32_vint(bytes), out)?)
 }
 
 // `equal A B`
-fn equal(line: &[u8], name: &mut [u8], output: &mut [u8]) {
-    let g = words::two_bytes(line, name, output);
-    if g.fault != 0 {
-        return say::fault(g.fault);
+fn equal(line: &[u8], scratch: &mut Scratch, out: &impl Print) -> Result<(), Unanswered> {
+    let a = bytes_at(line, 1, &mut scratch.name)?;
+    let b = bytes_at(line, 2, &mut scratch.output)?;
+    if fastcmp::fast_short_slice_compare(a, b) {
+        println!(out; "equal")?;
+    } else {
+        println!(out; "different")?;
     }
-    let n = g.n;
-    let m = g.m;
-    say_equal(&name[0..n], &output[0..m])
+    Ok(())
 }
 
-fn say_copied(a: &[u8], b: &mut [u8]) {
-    let copied = fastcpy::fast_short_slice_copy(a, b);
+fn say_copied(copied: Result<(), Refusal>, out: &impl Print) -> io::Result<()> {
     match copied {
-        Ok(()) => say::line(b"copied"),
-        Err(r) => say::refused(r.number()),
+        Ok(()) => println!(out; "copied"),
+        Err(why) => say::refused(out, why.number()),
     }
 }
 
 // `copy A B`: A over B.
-fn copy(line: &[u8], name: &mut [u8], output: &mut [u8]) {
-    let g = words::two_bytes(line, name, output);
-    if g.fault != 0 {
-        return say::fault(g.fault);
-    }
-    let n = g.n;
-    let m = g.m;
-    say_copied(&name[0..n], &mut output[0..m])
+fn copy(line: &[u8], scratch: &mut Scratch, out: &impl Print) -> Result<(), Unanswered> {
+    let a = bytes_at(line, 1, &mut scratch.name)?;
+    let n = words::bytes_at(line, 2, &mut scratch.output)?;
+    let output = &mut scratch.output[..];
+    let copied = fastcpy::fast_short_slice_copy(a, &mut output[..n]);
+    Ok(say_copied(copied, out)?)
 }
 
 // ---- the bare arena
 
-fn arena(page: u64, used: u64, size: u64) -> Arena {
-    Arena {
+// `PAGE USED .. [SIZE]`: an arena; SIZE is word k, the crate's page size where the line ends before it.
+fn arena_at(line: &[u8], k: usize) -> Result<Arena, Fault> {
+    let [page, used] = words::numbers_at::<2>(line)?;
+    let size = words::number_or(line, k, limits::PAGE_SIZE as u64)?;
+    Ok(Arena {
         page: page as usize,
         used: used as usize,
         size: size as usize,
-    }
-}
-
-// Word k of a line as a page size; the crate's where the line ends before it.
-fn size_at(line: &[u8], k: usize) -> Number {
-    words::number_or(line, k, limits::PAGE_SIZE as u64)
+    })
 }
 
 // The third number of a line: how many bytes of the list area the arena has.
-fn front(line: &[u8], lists: &[u8]) -> Taken
-    ensures { result.n ≤ length lists.now }
+fn length_at(line: &[u8], lists: &[u8]) -> Result<usize, Fault>
+    ensures { IfOk result (λ n. n ≤ length lists.now) }
 {
-    words::length_at(line, 3, lists.len(), fault::PAST_THE_END)
+    words::length_at(line, 3, lists.len(), Fault::PastTheEnd)
 }
 
-fn say_allocated(a: Result<Option<Room>, Refusal>) {
-    match a {
+fn say_allocated(
+    allocated: Result<Option<Room>, Refusal>,
+    out: &impl Print,
+) -> io::Result<()> {
+    match allocated {
         Ok(Some(room)) => {
-            let after = room.after;
-            say::told(b"at ", room.at as u64);
-            say::then(after.page as u64);
-            say::last(after.used as u64)
+            println!(out; "at {} {} {}", room.at, room.after.page, room.after.used)
         }
-        Ok(None) => say::line(b"no room"),
-        Err(e) => say::refused(e.number()),
+        Ok(None) => println!(out; "no room"),
+        Err(why) => say::refused(out, why.number()),
     }
 }
 
 // `allocate PAGE USED LENGTH N [SIZE]`
-fn allocate(line: &[u8], lists: &[u8]) {
-    let g = words::first_numbers(line, 4);
-    let len = front(line, lists);
-    let size = size_at(line, 5);
-    let fault = fault::first(g.fault, fault::first(len.fault, size.fault));
-    if fault != 0 {
-        return say::fault(fault);
-    }
-    let a = arena(g.a, g.b, size.value).allocate_space(len.n, g.d as usize);
-    say_allocated(a)
-}
-
-fn say_got(t: Result<(), Refusal>, got: &[u8]) {
-    match t {
-        Ok(()) => say::bytes_line(got),
-        Err(e) => say::refused(e.number()),
-    }
+fn allocate(line: &[u8], lists: &[u8], out: &impl Print) -> Result<(), Unanswered> {
+    let [_, _, _, n] = words::numbers_at::<4>(line)?;
+    let length = length_at(line, lists)?;
+    let arena = arena_at(line, 5)?;
+    let allocated = arena.allocate_space(length, n as usize);
+    Ok(say_allocated(allocated, out)?)
 }
 
 // `get PAGE USED LENGTH PLACE N [SIZE]`
-fn get(line: &[u8], lists: &[u8], output: &mut [u8]) {
-    let g = words::first_numbers(line, 5);
-    let len = front(line, lists);
-    let room = words::length_at(line, 5, output.len(), fault::OUTPUT_TOO_LONG);
-    let size = size_at(line, 6);
-    let wide = fault::first(g.fault, words::beyond_32(g.d));
-    let lengths = fault::first(len.fault, room.fault);
-    let fault = fault::first(wide, fault::first(lengths, size.fault));
-    if fault != 0 {
-        return say::fault(fault);
+fn get(
+    line: &[u8],
+    lists: &[u8],
+    scratch: &mut Scratch,
+    out: &impl Print,
+) -> Result<(), Unanswered> {
+    words::numbers_at::<5>(line)?;
+    let place = words::u32_at(line, 4)?;
+    let length = length_at(line, lists)?;
+    let output = room_at(line, 5, &mut scratch.output, Fault::OutputTooLong)?;
+    let arena = arena_at(line, 6)?;
+    match arena.read(&lists[..length], place, output) {
+        Ok(()) => println!(out; "{}", Hex(output))?,
+        Err(why) => say::refused(out, why.number())?,
     }
-    let pages = len.n;
-    let n = room.n;
-    let place = words::low_32(g.d);
-    let a = arena(g.a, g.b, size.value);
-    let t = a.read(&lists[0..pages], place, &mut output[0..n]);
-    say_got(t, &output[0..n])
+    Ok(())
 }
 
-fn say_put(t: Result<(), Refusal>) {
-    match t {
-        Ok(()) => say::line(b"put"),
-        Err(e) => say::refused(e.number()),
+fn say_put(put: Result<(), Refusal>, out: &impl Print) -> io::Result<()> {
+    match put {
+        Ok(()) => println!(out; "put"),
+        Err(why) => say::refused(out, why.number()),
     }
 }
 
 // `put PAGE USED LENGTH PLACE BYTES [SIZE]`
-fn put(line: &[u8], lists: &mut [u8], name: &mut [u8]) {
-    let g = words::first_numbers(line, 4);
-    let len = front(line, lists);
-    let b = words::bytes(line, 5, name);
-    let size = size_at(line, 6);
-    let wide = fault::first(g.fault, words::beyond_32(g.d));
-    let lengths = fault::first(b.fault, len.fault);
-    let fault = fault::first(wide, fault::first(lengths, size.fault));
-    if fault != 0 {
-        return say::fault(fault);
-    }
-    let pages = len.n;
-    let n = b.n;
-    let place = words::low_32(g.d);
-    let a = arena(g.a, g.b, size.value);
-    let t = a.write_at(&mut lists[0..pages], place, &name[0..n]);
-    say_put(t)
+fn put(
+    line: &[u8],
+    lists: &mut [u8],
+    scratch: &mut Scratch,
+    out: &impl Print,
+) -> Result<(), Unanswered> {
+    words::numbers_at::<4>(line)?;
+    let place = words::u32_at(line, 4)?;
+    let bytes = bytes_at(line, 5, &mut scratch.name)?;
+    let length = length_at(line, lists)?;
+    let arena = arena_at(line, 6)?;
+    let put = arena.write_at(&mut lists[..length], place, bytes);
+    Ok(say_put(put, out)?)
 }
 
-// The command of a number.
-pub fn play(k: u64, line: &[u8], lists: &mut [u8], name: &mut [u8], output: &mut [u8]) {
-    match k {
-        50 => hash(line, name),
-        51 => vint(line),
-        52 => unvint(line, name),
-        53 => equal(line, name, output),
-        54 => copy(line, name, output),
-        55 => allocate(line, lists),
-        56 => get(line, lists, output),
-        _ => put(line, lists, name),
+pub fn play(
+    command: Command,
+    line: &[u8],
+    lists: &mut [u8],
+    scratch: &mut Scratch,
+    out: &impl Print,
+) -> Result<(), Unanswered> {
+    match command {
+        Command::Hash => hash(line, scratch, out),
+        Command::Vint => vint(line, out),
+        Command::Unvint => unvint(line, scratch, out),
+        Command::Equal => equal(line, scratch, out),
+        Command::Copy => copy(line, scratch, out),
+        Command::Allocate => allocate(line, lists, out),
+        Command::Get => get(line, lists, scratch, out),
+        Command::Put => put(line, lists, scratch, out),
     }
 }

@@ -1,79 +1,42 @@
 // A lane's bytes behind a count.
+use bench_areas::{Scratch, Seen, bytes_at, room_at};
 use lane_pieces::Pieced;
-use store_state::State;
-use text::{fault, words};
+use say::{Unanswered, Written};
+use std::io;
+use text::fault::Fault;
+use text::words;
 
-// A refusal; 8 tells the lane's length beside its number.
-fn say_refusal(n: u32, told: u64) {
-    say::told(b"refused ", n as u64);
-    if n == 8 {
-        say::then(told);
+// The answer, and what it left of an output that was full of the filler.
+fn say_pieced(pieced: Pieced, output: &[u8], out: &impl Print) -> io::Result<()> {
+    match pieced {
+        Pieced::Absent => println!(out; "absent{}", say::kept(output, say::FILLER)),
+        Pieced::Given(n) => println!(out; "piece {n}{}", Written::of(n as usize, output)),
+        // 8 tells the lane's length beside its number
+        Pieced::Refused(8, told) => {
+            println!(out; "refused 8 {told}{}", say::kept(output, say::FILLER))
+        }
+        Pieced::Refused(n, _) => { println!(out; "refused {n}{}", say::kept(output, say::FILLER)) }
     }
 }
 
-// How many bytes a piece gave, these, and whether the output behind them is kept.
-fn say_pieced(r: Pieced, output: &[u8]) {
-    match r {
-        Pieced::Absent => {
-            say::text(b"absent");
-            say::kept(output)
-        }
-        Pieced::Given(n) => {
-            say::told(b"piece ", n);
-            say::written(n as usize, output)
-        }
-        Pieced::Refused(n, told) => {
-            say_refusal(n, told);
-            say::kept(output)
-        }
-    }
-}
-
-// A piece into an output, which is filled with ee before.
-fn piece_into(
-    st: State,
-    table: &[u32],
-    keys: &[u8],
-    lists: &[u8],
-    name: &[u8],
-    given: u64,
-    output: &mut [u8],
-) -> usize {
-    text::fill(output, 0xee);
-    let told = lane_pieces::piece(st, table, keys, lists, name, given, output);
-    let answer = told.answer;
-    say_pieced(answer, output);
-    told.walk
-}
-
-// `piece NAME GIVEN ROOM`
+// `piece NAME GIVEN ROOM`: the walk that it told.
 pub fn piece(
-    walk: usize,
-    st: State,
+    seen: Seen<'_>,
     line: &[u8],
-    table: &[u32],
-    keys: &[u8],
-    lists: &[u8],
-    name: &mut [u8],
-    output: &mut [u8],
-) -> usize {
-    let a = words::bytes(line, 1, name);
-    let given = words::number_at(line, 2);
-    let room = words::length_at(line, 3, output.len(), fault::OUTPUT_TOO_LONG);
-    let fault = fault::first(fault::first(a.fault, given.fault), room.fault);
-    if fault != 0 {
-        say::fault(fault);
-        return walk;
-    }
-    let n = a.n;
-    let m = room.n;
-    piece_into(
-        st,
+    scratch: &mut Scratch,
+    out: &impl Print,
+) -> Result<usize, Unanswered> {
+    let name = bytes_at(line, 1, &mut scratch.name)?;
+    let given = words::number_at(line, 2)?;
+    let output = room_at(line, 3, &mut scratch.output, Fault::OutputTooLong)?;
+    output.fill(say::FILLER);
+    let Seen {
+        state,
         table,
         keys,
         lists,
-        &name[0..n],
-        given.value,
-        &mut output[0..m],
-    )
+    } = seen;
+    let told = lane_pieces::piece(state, table, keys, lists, name, given, output);
+    say_pieced(told.answer, output, out)?;
+    Ok(told.walk)
 }

@@ -2,134 +2,116 @@
 //
 // Each reads its words, makes one call and says what it answered. It promises that it ends and stays inside what is
 // lent, whatever the line, the state and the memory are; what the call answers, report and report_read promise. It uses
-// limits, memory_arena (the state's type), store_state, report, report_read, text and say.
+// memory_arena (the state's type), store_state, report, report_read, text, say and bench_areas.
 #![tactic(auto)]
 
+use bench_areas::{Scratch, Seen, bytes_at, room_at};
+use limits::Refusal;
 use report::Reported;
-use report_read::check::{BadLine, Lanes};
+use report_read::check::{Bad, Sums};
 use report_read::pick::Lane;
-use store_state::State;
-use text::{fault, words};
+use say::{Unanswered, Written};
+use std::{fmt, io};
+use text::fault::Fault;
+use text::words;
 
-// A refusal; 8 and 15 tell a value beside their number.
-fn say_refusal(n: u32, told: u64) {
-    say::told(b"refused ", n as u64);
-    if n != 2 {
-        if n != 4 {
-            say::then(told);
+#[derive(Clone, Copy)]
+pub enum Command {
+    Report,
+    Unreport,
+    ReportLane,
+}
+
+// A refusal's number, and what it tells: 2 and 4 tell nothing.
+#[derive(Clone, Copy)]
+struct Refused(u32, u64);
+
+impl fmt::Display for Refused {
+    fn fmt<W: fmt::Write>(&self, f: &mut fmt::Formatter<W>) -> fmt::Result {
+        let Refused(n, told) = *self;
+        match n {
+            2 | 4 => write!(f, "refused {n}"),
+            _ => write!(f, "refused {n} {told}"),
         }
     }
 }
 
-// The report's length, its text, and whether the output behind it is kept.
-fn say_reported(r: Reported, output: &[u8]) {
-    match r {
-        Reported::Written(n) => {
-            say::told(b"report ", n);
-            say::written(n as usize, output)
-        }
+// A report's answer, and what it left of an output that was full of the filler.
+fn say_reported(reported: Reported, output: &[u8], out: &impl Print) -> io::Result<()> {
+    match reported {
+        Reported::Written(n) => println!(out; "report {n}{}", Written::of(n as usize, output)),
         Reported::Refused(n, told) => {
-            say_refusal(n, told);
-            say::kept(output)
+            println!(out; "{}{}", Refused(n, told), say::kept(output, say::FILLER))
         }
     }
-}
-
-// A report into an output, which is filled with ee before.
-fn report_into(st: State, table: &[u32], keys: &[u8], lists: &[u8], output: &mut [u8]) {
-    text::fill(output, 0xee);
-    let reported = report::report(st, table, keys, lists, output);
-    say_reported(reported, output)
 }
 
 // `report ROOM`
-fn report(st: State, line: &[u8], table: &[u32], keys: &[u8], lists: &[u8], output: &mut [u8]) {
-    let room = words::length_at(line, 1, output.len(), fault::OUTPUT_TOO_LONG);
-    if room.fault != 0 {
-        return say::fault(room.fault);
-    }
-    let m = room.n;
-    report_into(st, table, keys, lists, &mut output[0..m])
+fn report(
+    seen: Seen<'_>,
+    line: &[u8],
+    scratch: &mut Scratch,
+    out: &impl Print,
+) -> Result<(), Unanswered> {
+    let output = room_at(line, 1, &mut scratch.output, Fault::OutputTooLong)?;
+    output.fill(say::FILLER);
+    let reported = report::report(seen.state, seen.table, seen.keys, seen.lists, output);
+    Ok(say_reported(reported, output, out)?)
 }
 
-fn say_bad(bad: BadLine) {
-    say_refusal(limits::Refusal::NoReport.number(), bad.line);
-    say::end()
-}
-
-fn say_checked(checked: Result<Lanes, BadLine>) {
+fn say_checked(checked: Checked, out: &impl Print) -> io::Result<()> {
     match checked {
-        Ok(read) => {
-            say::told(b"lanes ", read.lanes);
-            say::last(read.bytes)
-        }
-        Err(bad) => say_bad(bad),
+        Checked::Lanes(terms, total) => println!(out; "lanes {terms} {total}"),
+        Checked::Refused(n, told) => println!(out; "{}", Refused(n, told)),
     }
 }
 
 // `unreport BYTES`
-fn unreport(line: &[u8], name: &mut [u8]) {
-    let a = words::bytes(line, 1, name);
-    if a.fault != 0 {
-        return say::fault(a.fault);
-    }
-    let n = a.n;
-    say_checked(report_read::check::check(&name[0..n]))
+fn unreport(line: &[u8], scratch: &mut Scratch, out: &impl Print) -> Result<(), Unanswered> {
+    let text = bytes_at(line, 1, &mut scratch.name)?;
+    Ok(say_checked(report_read::check::check(text), out)?)
 }
 
 // A part of a text, which is hex already; `-` where it is empty.
-fn say_part(text: &[u8], from: usize, n: usize) {
-    let p = from.min(text.len());
-    let e = p + n.min(text.len() - p);
+fn part(text: &[u8], from: usize, n: usize) -> &[u8] {
     if n == 0 {
-        return say::text(b"-");
+        return b"-";
     }
-    say::text(&text[p..e])
+    let behind = &text[from.min(text.len())..];
+    &behind[..n.min(behind.len())]
 }
 
-fn say_lane(text: &[u8], lane: Lane) {
-    say::text(b"lane ");
-    say_part(text, lane.name, lane.name_length);
-    say::text(b" ");
-    say_part(text, lane.bytes, lane.bytes_length);
-    say::end()
-}
-
-fn say_picked(picked: Result<Option<Lane>, BadLine>, text: &[u8]) {
+fn say_picked(picked: Picked, text: &[u8], out: &impl Print) -> io::Result<()> {
     match picked {
-        Ok(Some(lane)) => say_lane(text, lane),
-        Ok(None) => say::line(b"no such lane"),
-        Err(bad) => say_bad(bad),
+        Picked::Lane(name, name_n, bytes, bytes_n) => {
+            print!(out; "lane ")?;
+            out.write_all(part(text, name, name_n))?;
+            print!(out; " ")?;
+            out.write_all(part(text, bytes, bytes_n))?;
+            println!(out; "")
+        }
+        Picked::NoSuchLane => println!(out; "no such lane"),
+        Picked::Unread(n, told) => println!(out; "{}", Refused(n, told)),
     }
 }
 
 // `report-lane BYTES INDEX`
-fn report_lane(line: &[u8], name: &mut [u8]) {
-    let a = words::bytes(line, 1, name);
-    let index = words::number_at(line, 2);
-    let fault = fault::first(a.fault, index.fault);
-    if fault != 0 {
-        return say::fault(fault);
-    }
-    let n = a.n;
-    let picked = report_read::pick::pick_lane(&name[0..n], index.value);
-    say_picked(picked, &name[0..n])
+fn report_lane(line: &[u8], scratch: &mut Scratch, out: &impl Print) -> Result<(), Unanswered> {
+    let text = bytes_at(line, 1, &mut scratch.name)?;
+    let index = words::number_at(line, 2)?;
+    Ok(say_picked(report_read::pick::pick_lane(text, index), text, out)?)
 }
 
-// The command of a number.
 pub fn play(
-    k: u64,
-    st: State,
+    command: Command,
+    seen: Seen<'_>,
     line: &[u8],
-    table: &[u32],
-    keys: &[u8],
-    lists: &[u8],
-    name: &mut [u8],
-    output: &mut [u8],
-) {
-    match k {
-        60 => report(st, line, table, keys, lists, output),
-        61 => unreport(line, name),
-        _ => report_lane(line, name),
+    scratch: &mut Scratch,
+    out: &impl Print,
+) -> Result<(), Unanswered> {
+    match command {
+        Command::Report => report(seen, line, scratch, out),
+        Command::Unreport => unreport(line, scratch, out),
+        Command::ReportLane => report_lane(line, scratch, out),
     }
 }

@@ -1,29 +1,133 @@
 // The testbench's commands on a store's state, as numbers from outside: state, set.
 //
-// It promises that each call ends and stays inside what is lent, whatever the line and the state are. It uses spans,
+// It promises that each call ends and stays inside what is lent, whatever the line and the state are. It uses
 // murmurhash2, memory_arena and store_state (for the state), text and say.
 #![tactic(auto)]
 
-ghost use Rattle.std.specs.Prelude.{◌+◌, ◌≤◌, length};
-
 use memory_arena::Arena;
+use say::Unanswered;
+use std::{fmt, io};
 use store_state::State;
-use text::{fault, words};
+use text::fault::Fault;
+use text::words;
 
-// What a command leaves: the store's state, and how many buckets the last call by name said that it looked at.
 #[derive(Clone, Copy)]
-pub struct Played {
-    pub st: State,
-    pub walk: usize,
+pub enum Command {
+    State,
+    Set,
 }
 
-const COUNT: usize = 12;
+// A number of the state. The end is 0 at the front of the lent table and 1 at its back. The page size, which both arenas
+// keep, is one number here.
+#[derive(Clone, Copy)]
+enum Field {
+    Seed,
+    Words,
+    KeyBytes,
+    ListBytes,
+    Buckets,
+    End,
+    Keys,
+    KeyPage,
+    KeyUsed,
+    ListPage,
+    ListUsed,
+    PageSize,
+}
 
-// The state's numbers, in the order in which they are told. The end is 0 at the front of the lent table and 1 at its
-// back. The page size, which both arenas keep, is one number here.
+// In the order in which they are told.
+const FIELDS: [Field; 12] = [
+    Field::Seed,
+    Field::Words,
+    Field::KeyBytes,
+    Field::ListBytes,
+    Field::Buckets,
+    Field::End,
+    Field::Keys,
+    Field::KeyPage,
+    Field::KeyUsed,
+    Field::ListPage,
+    Field::ListUsed,
+    Field::PageSize,
+];
 
-const NAMES: [u8; 96] =
-    *b"seed words key_bytes list_bytes buckets end keys key_page key_used list_page list_used page_size";
+impl Field {
+    fn name(self) -> &'static str {
+        match self {
+            Field::Seed => "seed",
+            Field::Words => "words",
+            Field::KeyBytes => "key_bytes",
+            Field::ListBytes => "list_bytes",
+            Field::Buckets => "buckets",
+            Field::End => "end",
+            Field::Keys => "keys",
+            Field::KeyPage => "key_page",
+            Field::KeyUsed => "key_used",
+            Field::ListPage => "list_page",
+            Field::ListUsed => "list_used",
+            Field::PageSize => "page_size",
+        }
+    }
+
+    fn named(name: &[u8]) -> Result<Field, Fault> {
+        FIELDS
+            .into_iter()
+            .find(|field| field.name().as_bytes() == name)
+            .ok_or(Fault::NoSuchField)
+    }
+
+    fn get(self, st: State) -> u64 {
+        match self {
+            Field::Seed => u64::from(st.seed),
+            Field::Words => st.words as u64,
+            Field::KeyBytes => st.key_bytes as u64,
+            Field::ListBytes => st.list_bytes as u64,
+            Field::Buckets => st.buckets as u64,
+            Field::End => u64::from(st.back),
+            Field::Keys => st.keys as u64,
+            Field::KeyPage => st.key_arena.page as u64,
+            Field::KeyUsed => st.key_arena.used as u64,
+            Field::ListPage => st.list_arena.page as u64,
+            Field::ListUsed => st.list_arena.used as u64,
+            Field::PageSize => st.key_arena.size as u64,
+        }
+    }
+
+    // Changes the number of a state, unless the new one is too large for it.
+    fn set(self, st: &mut State, number: u64) -> Result<(), Fault> {
+        let n = number as usize;
+        match self {
+            Field::Seed => st.seed = u32::try_from(number).map_err(|_| Fault::TooLarge)?,
+            Field::Words => st.words = n,
+            Field::KeyBytes => st.key_bytes = n,
+            Field::ListBytes => st.list_bytes = n,
+            Field::Buckets => st.buckets = n,
+            Field::End => {
+                st.back = match number {
+                    0 => false,
+                    1 => true,
+                    _ => return Err(Fault::TooLarge),
+                }
+            }
+            Field::Keys => st.keys = n,
+            Field::KeyPage => st.key_arena.page = n,
+            Field::KeyUsed => st.key_arena.used = n,
+            Field::ListPage => st.list_arena.page = n,
+            Field::ListUsed => st.list_arena.used = n,
+            Field::PageSize => {
+                st.key_arena.size = n;
+                st.list_arena.size = n;
+            }
+        }
+        Ok(())
+    }
+}
+
+impl fmt::Display for Field {
+    fn fmt<W: fmt::Write>(&self, f: &mut fmt::Formatter<W>) -> fmt::Result {
+        f.write_str(self.name())
+    }
+}
 
 // A state of zeros.
 pub fn zeros() -> State {
@@ -45,180 +149,43 @@ pub fn zeros() -> State {
     }
 }
 
-fn end_of(st: State) -> u64 {
-    let back = st.back;
-    if back {
-        return 1;
-    }
-    0
-}
-
-// Number k of a state.
-fn number_of(st: State, k: usize) -> u64 {
-    let keys = st.key_arena;
-    let lists = st.list_arena;
-    match k {
-        0 => st.seed as u64,
-        1 => st.words as u64,
-        2 => st.key_bytes as u64,
-        3 => st.list_bytes as u64,
-        4 => st.buckets as u64,
-        5 => end_of(st),
-        6 => st.keys as u64,
-        7 => keys.page as u64,
-        8 => keys.used as u64,
-        9 => lists.page as u64,
-        10 => lists.used as u64,
-        _ => keys.size as u64,
-    }
-}
-
-// The state with another arena state for the keys.
-fn with_keys(st: State, page: usize, used: usize, size: usize) -> State {
-    let mut next = st;
-    let arena = Arena { page, used, size };
-    next.key_arena = arena;
-    next
-}
-
-// The state with another arena state for the lists.
-fn with_lists(st: State, page: usize, used: usize, size: usize) -> State {
-    let mut next = st;
-    let arena = Arena { page, used, size };
-    next.list_arena = arena;
-    next
-}
-
-// The state with another page size, for both.
-fn with_size(st: State, size: usize) -> State {
-    let keys = st.key_arena;
-    let lists = st.list_arena;
-    let next = with_keys(st, keys.page, keys.used, size);
-    with_lists(next, lists.page, lists.used, size)
-}
-
-// The state with one of the first seven numbers changed.
-fn with_plain(st: State, k: usize, n: u64) -> State {
-    let mut next = st;
-    match k {
-        0 => next.seed = words::low_32(n),
-        1 => next.words = n as usize,
-        2 => next.key_bytes = n as usize,
-        3 => next.list_bytes = n as usize,
-        4 => next.buckets = n as usize,
-        5 => next.back = n != 0,
-        _ => next.keys = n as usize,
-    }
-    next
-}
-
-// The state with one number changed.
-fn with_number(st: State, k: usize, n: u64) -> State {
-    let keys = st.key_arena;
-    let lists = st.list_arena;
-    match k {
-        7 => with_keys(st, n as usize, keys.used, keys.size),
-        8 => with_keys(st, keys.page, n as usize, keys.size),
-        9 => with_lists(st, n as usize, lists.used, lists.size),
-        10 => with_lists(st, lists.page, n as usize, lists.size),
-        11 => with_size(st, n as usize),
-        _ => with_plain(st, k, n),
-    }
-}
-
-// The number that a name stands for, COUNT where there is none.
-fn field(name: &[u8]) -> usize {
-    words::place_of(&NAMES, name)
-}
-
-// The largest value of number k.
-fn largest(k: usize) -> u64 {
-    match k {
-        0 => 4294967295,
-        5 => 1,
-        _ => 18446744073709551615,
-    }
-}
-
-// The fault of number k of a state.
-fn fault_of(k: usize, n: words::Number) -> u32 {
-    if COUNT <= k {
-        return fault::NO_SUCH_FIELD;
-    }
-    if n.fault != 0 {
-        return n.fault;
-    }
-    if largest(k) < n.value {
-        return fault::TOO_LARGE;
-    }
-    0
-}
-
-// `set FIELD NUMBER`: the state afterwards.
-fn set(st: State, line: &[u8]) -> State {
-    let k = field(words::word(line, 1));
-    let n = words::number_at(line, 2);
-    let fault = fault_of(k, n);
-    if fault != 0 {
-        say::fault(fault);
-        return st;
-    }
-    say::line(b"set");
-    with_number(st, k, n.value)
-}
-
-// Says number k of a state behind its name.
-fn say_number(st: State, k: usize) {
-    say::text(b" ");
-    say::text(words::word(&NAMES, k));
-    say::told(b"=", number_of(st, k));
+// `set FIELD NUMBER`
+fn set(st: &mut State, line: &[u8], out: &impl Print) -> Result<(), Unanswered> {
+    let field = Field::named(words::word(line, 1))?;
+    let number = words::number_at(line, 2)?;
+    field.set(st, number)?;
+    println!(out; "set")?;
+    Ok(())
 }
 
 // `state`
-fn tell(st: State) {
-    say::text(b"state");
-    let mut k = 0;
-    while k < COUNT {
-        say_number(st, k);
-        k += 1;
+fn tell(st: State, out: &impl Print) -> io::Result<()> {
+    print!(out; "state")?;
+    for field in FIELDS {
+        let number = field.get(st);
+        print!(out; " {field}={number}")?;
     }
-    say::end();
-}
-
-// Writes number k as 8 little-endian bytes.
-fn put_number(into: &mut [u8], at: usize, n: u64)
-    requires { at + 8 ≤ length into.old }
-{
-    spans::put_u32(into, at, words::low_32(n));
-    spans::put_u32(into, at + 4, words::low_32(n / 4294967296));
+    println!(out; "")
 }
 
 // The hash of a state's numbers, each as 8 little-endian bytes.
 pub fn hash(st: State) -> u32 {
-    let mut into = [0u8; 96];
-    hash_in(st, &mut into)
-}
-
-fn hash_in(st: State, into: &mut [u8; 96]) -> u32 {
-    hash_at(st, into)
-}
-
-fn hash_at(st: State, into: &mut [u8]) -> u32
-    requires { 96 ≤ length into.old }
-{
-    let mut k = 0;
-    while k < COUNT {
-        put_number(into, k * 8, number_of(st, k));
-        k += 1;
+    let mut bytes = [0; 96];
+    for (place, field) in bytes.chunks_exact_mut(8).zip(FIELDS) {
+        place.copy_from_slice(&field.get(st).to_le_bytes());
     }
-    murmurhash2::murmurhash2(into, 0)
+    murmurhash2::murmurhash2(&bytes, 0)
 }
 
-// The command of a number: the state afterwards.
-pub fn play(k: u64, st: State, line: &[u8]) -> State {
-    if k == 30 {
-        tell(st);
-        return st;
+// The state is changed by `set` alone.
+pub fn play(
+    command: Command,
+    st: &mut State,
+    line: &[u8],
+    out: &impl Print,
+) -> Result<(), Unanswered> {
+    match command {
+        Command::State => Ok(tell(*st, out)?),
+        Command::Set => set(st, line, out),
     }
-    set(st, line)
 }

@@ -1,118 +1,91 @@
 // The testbench's commands that write a store: create, append.
 //
-// Each reads its words, makes one call, says what it answered and gives back the state. It promises that it ends and
-// stays inside what is lent, whatever the line, the state and the memory are; what the call answers, store promises. It
-// uses limits, memory_arena, store_state, store_create and store_append (for the state), text, say and bench_state.
+// Each reads its words, makes one call and says what it answered. It promises that it ends and stays inside what is
+// lent, whatever the line, the state and the memory are; what the call answers, store promises. It uses limits,
+// memory_arena, store_state, store_create and store_append (for the state), text, say and bench_areas.
 #![tactic(auto)]
 
-use bench_state::Played;
+use bench_areas::{Lent, Scratch, bytes_at};
 use limits::Refusal;
+use say::Unanswered;
+use std::io;
 use store_append::{Appended, ToldAppend};
 use store_state::State;
-use text::{fault, words};
+use text::words;
 
-fn say_created(c: Result<State, Refusal>, st: State) -> State {
-    match c {
+#[derive(Clone, Copy)]
+pub enum Command {
+    Create,
+    Append,
+}
+
+fn say_created(
+    created: Result<State, Refusal>,
+    state: &mut State,
+    out: &impl Print,
+) -> io::Result<()> {
+    match created {
         Ok(fresh) => {
-            say::line(b"created");
-            fresh
+            *state = fresh;
+            println!(out; "created")
         }
-        Err(e) => {
-            say::refused(e.number());
-            st
-        }
+        Err(why) => say::refused(out, why.number()),
     }
 }
 
 // `create CAPACITY SEED [SIZE]`
-fn create(st: State, line: &[u8], table: &mut [u32], keys: &[u8], lists: &[u8]) -> State {
-    let g = words::first_numbers(line, 2);
-    let size = words::number_or(line, 3, limits::PAGE_SIZE as u64);
-    let wide = fault::first(g.fault, words::beyond_32(g.b));
-    let fault = fault::first(wide, size.fault);
-    if fault != 0 {
-        say::fault(fault);
-        return st;
-    }
-    let seed = words::low_32(g.b);
-    let made = store_create::create(g.a as usize, seed, size.value as usize, table, keys, lists);
-    say_created(made, st)
+fn create(lent: &mut Lent<'_>, line: &[u8], out: &impl Print) -> Result<(), Unanswered> {
+    let [capacity, _] = words::numbers_at::<2>(line)?;
+    let seed = words::u32_at(line, 2)?;
+    let size = words::number_or(line, 3, limits::PAGE_SIZE as u64)?;
+    let table = &mut lent.table[..];
+    let keys = &mut lent.keys[..];
+    let lists = &mut lent.lists[..];
+    let created = store_create::create(capacity as usize, seed, size as usize, table, keys, lists);
+    Ok(say_created(created, lent.state, out)?)
 }
 
-// An append's answer: the state afterwards.
-fn say_answer(a: Appended) -> State {
-    match a {
+// An append's answer: its walk.
+pub fn say_appended(told: ToldAppend, state: &mut State, out: &impl Print) -> io::Result<usize> {
+    match told.answer {
         Appended::Accepted(next) => {
-            say::line(b"accepted");
-            next
+            *state = next;
+            println!(out; "accepted")?;
         }
         Appended::Declined(same, n) => {
-            say::refused(n);
-            same
+            *state = same;
+            say::refused(out, n)?;
         }
     }
+    Ok(told.walk)
 }
 
-// An append's answer, and what it leaves.
-pub fn say_appended(told: ToldAppend) -> Played {
-    let answer = told.answer;
-    let st = say_answer(answer);
-    Played {
-        st,
-        walk: told.walk,
-    }
-}
-
-fn append_to(
-    st: State,
-    table: &mut [u32],
-    keys: &mut [u8],
-    lists: &mut [u8],
-    name: &[u8],
-    bytes: &[u8],
-) -> Played {
-    let told = store_append::append(st, table, keys, lists, name, bytes);
-    say_appended(told)
-}
-
-// `append NAME BYTES`
+// `append NAME BYTES`: the walk that it told.
 fn append(
-    walk: usize,
-    st: State,
+    lent: &mut Lent<'_>,
     line: &[u8],
-    table: &mut [u32],
-    keys: &mut [u8],
-    lists: &mut [u8],
-    name: &mut [u8],
-    output: &mut [u8],
-) -> Played {
-    let g = words::two_bytes(line, name, output);
-    if g.fault != 0 {
-        say::fault(g.fault);
-        return Played { st, walk };
-    }
-    let n = g.n;
-    let m = g.m;
-    append_to(st, table, keys, lists, &name[0..n], &output[0..m])
+    scratch: &mut Scratch,
+    out: &impl Print,
+) -> Result<usize, Unanswered> {
+    let name = bytes_at(line, 1, &mut scratch.name)?;
+    let bytes = bytes_at(line, 2, &mut scratch.output)?;
+    let told = store_append::append(*lent.state, lent.table, lent.keys, lent.lists, name, bytes);
+    Ok(say_appended(told, lent.state, out)?)
 }
 
-// The command of a number: what it leaves.
+// The walk that a call by name told.
 pub fn play(
-    k: u64,
-    walk: usize,
-    st: State,
+    command: Command,
+    lent: &mut Lent<'_>,
     line: &[u8],
-    table: &mut [u32],
-    keys: &mut [u8],
-    lists: &mut [u8],
-    name: &mut [u8],
-    output: &mut [u8],
-) -> Played {
-    match k {
-        10 => {
-            let made = create(st, line, table, keys, lists);
-            Played { st: made, walk }
+    scratch: &mut Scratch,
+    out: &impl Print,
+) -> Result<Option<usize>, Unanswered> {
+    match command {
+        Command::Create => {
+            create(lent, line, out)?;
+            Ok(None)
         }
-        _ => append(walk, st, line, table, keys, lists, name, output),
+        Command::Append => Ok(Some(append(lent, line, scratch, out)?)),
     }
 }

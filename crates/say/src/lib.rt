@@ -7,7 +7,7 @@
 mod shown;
 mod unanswered;
 
-pub use shown::{Decimals, Hex, Spaced, Written, is_all, kept};
+pub use shown::{Decimals, FILLER, Hex, Spaced, Written, is_all, kept};
 use std::io;
 pub use unanswered::{Unanswered, answered};
 

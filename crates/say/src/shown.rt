@@ -2,7 +2,7 @@
 use std::fmt;
 
 // What an output's bytes are before a call.
-const FILLER: u8 = 0xee;
+pub const FILLER: u8 = 0xee;
 
 // Bytes as hex pairs, or `-` for none.
 #[derive(Clone, Copy)]

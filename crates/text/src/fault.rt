@@ -12,7 +12,14 @@ pub enum Fault {
     PastTheEnd,
     NoSuchArea,
     NoSuchField,
-    NoMemory,
+    // more than the most of each area that may be lent
+    NoMemory {
+        words: usize,
+        key_bytes: usize,
+        list_bytes: usize,
+    },
+    NoBuffer(usize),
+    NoSuchStore,
     LineTooLong,
     UnknownCommand,
     TooManyPlaces,
@@ -34,9 +41,16 @@ impl fmt::Display for Fault {
             Fault::PastTheEnd => f.write_str("past the end"),
             Fault::NoSuchArea => f.write_str("no such area: table, keys or lists"),
             Fault::NoSuchField => f.write_str("no such field"),
-            Fault::NoMemory => f.write_str(
-                "no such memory: at most 131072 words, 2097152 and 3145728 bytes",
+            Fault::NoMemory {
+                words,
+                key_bytes,
+                list_bytes,
+            } => write!(
+                f,
+                "no such memory: at most {words} words, {key_bytes} and {list_bytes} bytes"
             ),
+            Fault::NoBuffer(bytes) => write!(f, "no such memory: at most {bytes} bytes"),
+            Fault::NoSuchStore => f.write_str("no such store: 1 or 2"),
             Fault::LineTooLong => f.write_str("line too long"),
             Fault::UnknownCommand => f.write_str("unknown command"),
             Fault::TooManyPlaces => f.write_str("too many places: at most 16384"),

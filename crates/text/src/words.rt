@@ -17,11 +17,6 @@ pub fn word(line: &[u8], k: usize) -> &[u8] {
     nth(line, k).unwrap_or(b"")
 }
 
-// Which word of a row a name is, from 0.
-pub fn place_of(row: &[u8], name: &[u8]) -> Option<usize> {
-    row.split(|b| *b == b' ').position(|word| word == name)
-}
-
 // A number with one more digit.
 fn with_digit(value: u64, b: u8) -> Result<u64, Fault> {
     let digit = match b {
