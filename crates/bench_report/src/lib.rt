@@ -7,11 +7,11 @@
 
 use bench_areas::{Scratch, Seen, bytes_at, room_at};
 use limits::Refusal;
-use report::Reported;
-use report_read::check::{Bad, Sums};
+use report::Unwritten;
+use report_read::check::{BadLine, Lanes};
 use report_read::pick::Lane;
 use say::{Unanswered, Written};
-use std::{fmt, io};
+use std::io;
 use text::fault::Fault;
 use text::words;
 
@@ -22,26 +22,22 @@ pub enum Command {
     ReportLane,
 }
 
-// A refusal's number, and what it tells: 2 and 4 tell nothing.
-#[derive(Clone, Copy)]
-struct Refused(u32, u64);
-
-impl fmt::Display for Refused {
-    fn fmt<W: fmt::Write>(&self, f: &mut fmt::Formatter<W>) -> fmt::Result {
-        let Refused(n, told) = *self;
-        match n {
-            2 | 4 => write!(f, "refused {n}"),
-            _ => write!(f, "refused {n} {told}"),
-        }
-    }
-}
-
 // A report's answer, and what it left of an output that was full of the filler.
-fn say_reported(reported: Reported, output: &[u8], out: &impl Print) -> io::Result<()> {
+fn say_reported(
+    reported: Result<u64, Unwritten>,
+    output: &[u8],
+    out: &impl Print,
+) -> io::Result<()> {
     match reported {
-        Reported::Written(n) => println!(out; "report {n}{}", Written::of(n as usize, output)),
-        Reported::Refused(n, told) => {
-            println!(out; "{}{}", Refused(n, told), say::kept(output, say::FILLER))
+        Ok(n) => println!(out; "report {n}{}", Written::of(n as usize, output)),
+        Err(why) => {
+            match why {
+                Unwritten::Refused(refusal) => print!(out; "refused {}", refusal.number())?,
+                Unwritten::TooShort(needed) => {
+                    print!(out; "refused {} {needed}", Refusal::OutputTooShort.number())?
+                }
+            }
+            println!(out; "{}", say::kept(output, say::FILLER))
         }
     }
 }
@@ -59,10 +55,15 @@ fn report(
     Ok(say_reported(reported, output, out)?)
 }
 
-fn say_checked(checked: Checked, out: &impl Print) -> io::Result<()> {
+// A text that is no report tells its first bad line.
+fn say_bad(bad: BadLine, out: &impl Print) -> io::Result<()> {
+    println!(out; "refused {} {}", Refusal::NoReport.number(), bad.line)
+}
+
+fn say_checked(checked: Result<Lanes, BadLine>, out: &impl Print) -> io::Result<()> {
     match checked {
-        Checked::Lanes(terms, total) => println!(out; "lanes {terms} {total}"),
-        Checked::Refused(n, told) => println!(out; "{}", Refused(n, told)),
+        Ok(read) => println!(out; "lanes {} {}", read.lanes, read.bytes),
+        Err(bad) => say_bad(bad, out),
     }
 }
 
@@ -81,17 +82,21 @@ fn part(text: &[u8], from: usize, n: usize) -> &[u8] {
     &behind[..n.min(behind.len())]
 }
 
-fn say_picked(picked: Picked, text: &[u8], out: &impl Print) -> io::Result<()> {
+fn say_picked(
+    picked: Result<Option<Lane>, BadLine>,
+    text: &[u8],
+    out: &impl Print,
+) -> io::Result<()> {
     match picked {
-        Picked::Lane(name, name_n, bytes, bytes_n) => {
+        Ok(Some(lane)) => {
             print!(out; "lane ")?;
-            out.write_all(part(text, name, name_n))?;
+            out.write_all(part(text, lane.name, lane.name_length))?;
             print!(out; " ")?;
-            out.write_all(part(text, bytes, bytes_n))?;
-            println!(out; "")
+            out.write_all(part(text, lane.bytes, lane.bytes_length))?;
+            println!(out)
         }
-        Picked::NoSuchLane => println!(out; "no such lane"),
-        Picked::Unread(n, told) => println!(out; "{}", Refused(n, told)),
+        Ok(None) => println!(out; "no such lane"),
+        Err(bad) => say_bad(bad, out),
     }
 }
 

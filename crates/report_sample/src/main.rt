@@ -4,7 +4,7 @@
 #![tactic(auto)]
 
 use limits::Refusal;
-use report::Reported;
+use report::Unwritten;
 use std::io;
 use store_append::Appended;
 use store_state::State;
@@ -72,8 +72,11 @@ fn print_report(
     output: &mut [u8],
 ) -> io::Result<()> {
     match report::report(st, table, keys, lists, output) {
-        Reported::Written(n) => show(out, output, n),
-        Reported::Refused(k, n) => println!(out; "refused {k} {n}"),
+        Ok(n) => show(out, output, n),
+        Err(Unwritten::TooShort(needed)) => {
+            println!(out; "refused {} {needed}", Refusal::OutputTooShort.number())
+        }
+        Err(Unwritten::Refused(why)) => println!(out; "refused {} 0", why.number()),
     }
 }
 
