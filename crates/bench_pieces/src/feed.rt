@@ -1,5 +1,5 @@
 // feed: numbers out of a lane that comes in pieces.
-use number_pieces::{Fed, Pieces, Stop};
+use number_pieces::{Pieces, Stop};
 use text::{fault, words};
 
 // What the places of an output hold before a call.
@@ -59,10 +59,10 @@ fn say_refusal(n: u32, told: u64, given: &[u32]) {
     say_numbers(given)
 }
 
-fn say_stop(stop: Stop, given: &[u32]) {
+fn say_stop(stop: Option<Stop>, given: &[u32]) {
     match stop {
-        Stop::Going => say_numbers(given),
-        Stop::Refused(n, told) => say_refusal(n, told, given),
+        None => say_numbers(given),
+        Some(s) => say_refusal(s.refusal.number(), s.told, given),
     }
 }
 
