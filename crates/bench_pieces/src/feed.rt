@@ -1,5 +1,6 @@
 // feed: numbers out of a lane that comes in pieces.
 use bench_areas::{bytes_at, room_at};
+use limits::Refusal;
 use number_pieces::{Fed, Pieces, Stop};
 use say::{Hex, Spaced, Unanswered};
 use std::{fmt, io};
@@ -24,16 +25,19 @@ impl fmt::Display for Numbers<'_> {
 // Whether it goes on, and the numbers that were given out. All refusals but 2 tell a value beside their number, 11 and
 // 12 also the numbers before it.
 #[derive(Clone, Copy)]
-struct Said<'a>(Stop, Numbers<'a>);
+struct Said<'a>(Option<Stop>, Numbers<'a>);
 
 impl fmt::Display for Said<'_> {
     fn fmt<W: fmt::Write>(&self, f: &mut fmt::Formatter<W>) -> fmt::Result {
-        let numbers = self.1;
-        match self.0 {
-            Stop::Going => write!(f, "{numbers}"),
-            Stop::Refused(2, _) => write!(f, "refused 2"),
-            Stop::Refused(8, told) => write!(f, "refused 8 {told}"),
-            Stop::Refused(n, told) => write!(f, "refused {n} {told} {numbers}"),
+        let Said(stop, numbers) = *self;
+        let Some(Stop { refusal, told }) = stop else {
+            return write!(f, "{numbers}");
+        };
+        let n = refusal.number();
+        match refusal {
+            Refusal::NotWhole => write!(f, "refused {n}"),
+            Refusal::OutputTooShort => write!(f, "refused {n} {told}"),
+            _ => write!(f, "refused {n} {told} {numbers}"),
         }
     }
 }

@@ -2,7 +2,7 @@
 -- Assumes nothing.
 use Prim.Native.Nat.{ℕ, ◌+◌, ◌-◌, ◌≤◌, ◌<◌}
 use mathlib.Core.Path.{◌≡◌, refl, sym, ap, ◌∙◌, subst}
-use mathlib.Core.Logic.{⊎_elim}
+use mathlib.Core.Logic.{◌⊎◌, inl, ⊎_elim}
 use mathlib.Core.Bool.{Bool, true, false, ◌&&◌}
 use mathlib.Core.List.{List, [], ◌∷◌, ◌++◌, append_assoc, append-nil}
 use native.Mathlib.Omega.{arith}
@@ -12,15 +12,18 @@ use lib.Seq.{take-append_seam}
 use borrow.Author.Tests.{le-leb, leb-true}
 use Rattle.limits.specs.Limits.{held_limit, fed_limit}
 use Rattle.limits.specs.Refusals.{feeding_piece, permitted}
+use Rattle.std.specs.Prelude.{Option, Some, None}
+use Rattle.limits.specs.Refusals.{number_of}
+use Rattle.limits.specs.declared.Refusal.{Refusal}
+use Rattle.limits.specs.declared.Refusal.TheVariants.{NotWhole, OutputTooShort, NoEnd, AnotherForm}
 use Rattle.numbers.proofs.Tests.{both}
 use Rattle.spans.specs.Span.{read_span, overwrite}
 use Rattle.spans.proofs.Laws.{read_written, overwrite_none}
 use Rattle.number_pieces.specs.declared.Pieces.{Pieces}
 use Rattle.number_pieces.specs.declared.Fed.{Fed}
 use Rattle.number_pieces.specs.declared.Stop.{Stop}
-use Rattle.number_pieces.specs.declared.Stop.TheVariants.{Going, Refused}
 use Rattle.number_pieces.specs.Run.{End, waits, stops, Ran, ran, run_of, at_end}
-use Rattle.number_pieces.specs.Feed.{held_of, holding, fresh, no_top, takes, Out, out, fed, after, on_end, on_run}
+use Rattle.number_pieces.specs.Feed.{held_of, holding, fresh, no_top, takes, Out, out, fed, stopped as stops_with, after, on_end, on_run}
 use Rattle.number_pieces.specs.Feed.{feed_of}
 use Rattle.number_pieces.specs.Said.{said_fed}
 use Rattle.number_pieces.specs.Cut.{Piece, HasPlaces, EachHasPlaces, joined, goes_on, stopped, Got, got}
@@ -58,13 +61,13 @@ holds-now st n T = record { few = simp length-take (omega (arith, T.few)); low =
 -- ---- a call, by what is asked of it
 
 pub feed_2 : (st : Pieces) (piece : List ℕ) (last : Bool) (output : List ℕ) → takes st (length piece) ≡ false
-    → feed_of st piece last output ≡ out (fed st 0 (Refused 2 0)) output
+    → feed_of st piece last output ≡ out (stops_with st 0 NotWhole 0) output
 unfolding feed_of
 feed_2 st piece last output e = rw e
 
 pub feed_8 : (st : Pieces) (piece : List ℕ) (last : Bool) (output : List ℕ) → takes st (length piece) ≡ true
     → leb (length piece) (length output) ≡ false
-    → feed_of st piece last output ≡ out (fed st 0 (Refused 8 (length piece))) output
+    → feed_of st piece last output ≡ out (stops_with st 0 OutputTooShort (length piece)) output
 unfolding feed_of
 feed_8 st piece last output e l = rw (e, l)
 
@@ -132,7 +135,7 @@ after_both st (x ∷ p) (y ∷ q) h g i e = ap (holding g) (omega (arith, length
 end_waits : (last : Bool) (i : ℕ) (e : End) (h : List ℕ) → at_end last i e ≡ waits h → e ≡ waits h
 end_waits false i e h p = p
 end_waits true i (waits []) h p = p
-end_waits true i (waits (b ∷ g)) h p = let z : ◌≡◌ {A = ℕ} 0 1 = cc in absurd (omega arith)
+end_waits true i (waits (b ∷ g)) h p = cc
 end_waits true i (stops n j) h p = p
 
 -- numbers in front of what one more piece comes to
@@ -216,8 +219,8 @@ cut_anywhere st ps p whole last w t E l m =
 
 -- what a call may leave: nothing changed before its first byte; else by the run's end
 feed_cases : (P : Out → Type 0) (st : Pieces) (piece : List ℕ) (last : Bool) (output : List ℕ)
-    → P (out (fed st 0 (Refused 2 0)) output)
-    → P (out (fed st 0 (Refused 8 (length piece))) output)
+    → P (out (stops_with st 0 NotWhole 0) output)
+    → P (out (stops_with st 0 OutputTooShort (length piece)) output)
     → (Takes st (length piece) → P (on_run (run_of (held_of st) st.fed piece) st piece last output))
     → P (feed_of st piece last output)
 feed_cases P st piece last output two eight runs =
@@ -238,33 +241,34 @@ empty_piece st last output =
     (sym (run_none (held_of st) st.fed)) (ends (at_end last (st.fed + 0) (waits (held_of st)))))
   where
     ends : (e : End) → on_end e st [] [] output ≡ out (fed st 0 (on_end e st [] [] output).answer.stop) output
-    ends (waits h) = ap (out (fed st 0 Going)) (overwrite_none 0 output)
-    ends (stops n i) = ap (out (fed st 0 (Refused n i))) (overwrite_none 0 output)
+    ends (waits h) = ap (out (fed st 0 None)) (overwrite_none 0 output)
+    ends (stops n i) = ap (out (stops_with st 0 n i)) (overwrite_none 0 output)
 
 pub empty_goes_on : (st : Pieces) (output : List ℕ) → takes st 0 ≡ true
-    → (feed_of st [] false output).answer.stop ≡ Going
+    → (feed_of st [] false output).answer.stop ≡ None
 empty_goes_on st output e =
     ap (λ (o : Out). o.answer.stop)
     (feed_run st [] false output e (le-leb 0 (length output) (omega arith))
     ∙ ap (λ (r : Ran). on_run r st [] false output) (run_none (held_of st) st.fed))
 
-pub state_back : (st : Pieces) (piece : List ℕ) (last : Bool) (output : List ℕ) (n told : ℕ)
-    → (feed_of st piece last output).answer.stop ≡ Refused n told → (feed_of st piece last output).answer.state ≡ st
-state_back st piece last output n told =
-    feed_cases (λ (o : Out). o.answer.stop ≡ Refused n told → o.answer.state ≡ st) st piece last output (λ e. refl)
+pub state_back : (st : Pieces) (piece : List ℕ) (last : Bool) (output : List ℕ) (s : Stop)
+    → (feed_of st piece last output).answer.stop ≡ Some s → (feed_of st piece last output).answer.state ≡ st
+state_back st piece last output s =
+    feed_cases (λ (o : Out). o.answer.stop ≡ Some s → o.answer.state ≡ st) st piece last output (λ e. refl)
     (λ e. refl)
     (λ T. ends (at_end last (st.fed + length piece) (run_of (held_of st) st.fed piece).end)
     (run_of (held_of st) st.fed piece).numbers)
   where
-    ends : (e : End) (ns : List ℕ) → (on_end e st piece ns output).answer.stop ≡ Refused n told
+    ends : (e : End) (ns : List ℕ) → (on_end e st piece ns output).answer.stop ≡ Some s
         → (on_end e st piece ns output).answer.state ≡ st
-    ends (waits h) ns e = let z : ◌≡◌ {A = ℕ} 0 1 = cc in absurd (omega arith)
+    ends (waits h) ns e = cc
     ends (stops k i) ns e = refl
 
-pub output_back : (st : Pieces) (piece : List ℕ) (last : Bool) (output : List ℕ) (n told : ℕ)
-    → (feed_of st piece last output).answer.stop ≡ Refused n told → n < 11 → (feed_of st piece last output).output ≡ output
-output_back st piece last output n told =
-    feed_cases (λ (o : Out). o.answer.stop ≡ Refused n told → n < 11 → o.output ≡ output) st piece last output
+pub output_back : (st : Pieces) (piece : List ℕ) (last : Bool) (output : List ℕ) (s : Stop)
+    → (feed_of st piece last output).answer.stop ≡ Some s → number_of s.refusal < 11
+    → (feed_of st piece last output).output ≡ output
+output_back st piece last output s =
+    feed_cases (λ (o : Out). o.answer.stop ≡ Some s → number_of s.refusal < 11 → o.output ≡ output) st piece last output
     (λ e l. refl) (λ e l. refl)
     (λ T. at-end last (run_of (held_of st) st.fed piece).end
     (run-fair (held_of st) st.fed piece (holds-now st (length piece) T)).end_fair)
@@ -275,22 +279,25 @@ output_back st piece last output n told =
     ns : List ℕ
     ns = (run_of (held_of st) st.fed piece).numbers
 
-    not_so : {A : Type 0} (k j : ℕ) → 11 ≤ k → ◌≡◌ {A = Stop} (Refused k j) (Refused n told) → n < 11 → A
-    not_so k j h e l = let z : k ≡ n = cc in absurd (omega arith)
+    not_so : {A : Type 0} (r : Refusal) (j : ℕ) → (r ≡ NoEnd) ⊎ (r ≡ AnotherForm)
+        → ◌≡◌ {A = Option Stop} (Some (record { refusal = r; told = j })) (Some s) → number_of s.refusal < 11 → A
+    not_so r j f e l =
+        let z : record { refusal = r; told = j } ≡ s = cc in
+        let q : number_of r ≡ number_of s.refusal = ap (λ (x : Stop). number_of x.refusal) z in
+        absurd (⊎_elim (λ (x : r ≡ NoEnd). omega (arith, ap number_of x)) (λ (x : r ≡ AnotherForm). omega (
+          arith,
+          ap
+              number_of x,
+        )) f)
 
-    going : {A : Type 0} → ◌≡◌ {A = Stop} Going (Refused n told) → A
-    going e = let z : ◌≡◌ {A = ℕ} 0 1 = cc in absurd (omega arith)
-
-    at-end : (t : Bool) (e : End) → FairEnd e → (on_end (at_end t i e) st piece ns output).answer.stop ≡ Refused n told
-        → n < 11
+    at-end : (t : Bool) (e : End) → FairEnd e → (on_end (at_end t i e) st piece ns output).answer.stop ≡ Some s
+        → number_of s.refusal < 11
         → (on_end (at_end t i e) st piece ns output).output ≡ output
-    at-end false (waits h) f e l = going e
-    at-end true (waits []) f e l = going e
-    at-end true (waits (b ∷ h)) f e l = not_so 11 i (omega arith) e l
-    at-end false (stops k j) f e l =
-        not_so k j (⊎_elim (λ (x : k ≡ 11). omega arith) (λ (x : k ≡ 12). omega arith) f) e l
-    at-end true (stops k j) f e l =
-        not_so k j (⊎_elim (λ (x : k ≡ 11). omega arith) (λ (x : k ≡ 12). omega arith) f) e l
+    at-end false (waits h) f e l = cc
+    at-end true (waits []) f e l = cc
+    at-end true (waits (b ∷ h)) f e l = not_so NoEnd i (inl refl) e l
+    at-end false (stops k j) f e l = not_so k j f e l
+    at-end true (stops k j) f e l = not_so k j f e l
 
 pub written_back : (ns : List ℕ) (p : Piece) (last : Bool) → Each32 ns → p.bytes ≡ vints_of ns
     → length p.bytes ≤ fed_limit
@@ -313,9 +320,9 @@ written_back ns p last h e l m =
 
 -- ---- a listed number
 
-feed_numbered : (st : Pieces) (piece : List ℕ) (last : Bool) (output : List ℕ)
+numbered_of : (st : Pieces) (piece : List ℕ) (last : Bool) (output : List ℕ)
     → permitted feeding_piece (said_fed (feed_of st piece last output).answer) ≡ true
-feed_numbered st piece last output =
+numbered_of st piece last output =
     feed_cases (λ (o : Out). permitted feeding_piece (said_fed o.answer) ≡ true) st piece last output refl refl
     (λ T. at-end last (run_of (held_of st) st.fed piece).end
     (run-fair (held_of st) st.fed piece (holds-now st (length piece) T)).end_fair)
@@ -331,12 +338,11 @@ feed_numbered st piece last output =
     at-end false (waits h) f = refl
     at-end true (waits []) f = refl
     at-end true (waits (b ∷ h)) f = refl
-    at-end false (stops n j) f = ⊎_elim (λ (e : n ≡ 11). rw e) (λ (e : n ≡ 12). rw e) f
-    at-end true (stops n j) f = ⊎_elim (λ (e : n ≡ 11). rw e) (λ (e : n ≡ 12). rw e) f
+    at-end false (stops n j) f = ⊎_elim (λ (e : n ≡ NoEnd). rw e) (λ (e : n ≡ AnotherForm). rw e) f
+    at-end true (stops n j) f = ⊎_elim (λ (e : n ≡ NoEnd). rw e) (λ (e : n ≡ AnotherForm). rw e) f
 
--- both clauses of the contract, by the first
-pub feed_post : (st : Pieces) (piece : List ℕ) (last : Bool) (output : List ℕ) (r : Fed) (o : List ℕ)
-    → out r o ≡ feed_of st piece last output
-    → (out r o ≡ feed_of st piece last output) × (permitted feeding_piece (said_fed r) ≡ true)
-feed_post st piece last output r o e =
-    (e, ap (λ (x : Out). permitted feeding_piece (said_fed x.answer)) e ∙ feed_numbered st piece last output)
+-- and so is the code's
+pub feed_numbered : (st : Pieces) (piece : List ℕ) (last : Bool) (output : List ℕ) (r : Fed) (o : List ℕ)
+    → out r o ≡ feed_of st piece last output → permitted feeding_piece (said_fed r) ≡ true
+feed_numbered st piece last output r o e =
+    ap (λ (x : Out). permitted feeding_piece (said_fed x.answer)) e ∙ numbered_of st piece last output

@@ -1,18 +1,19 @@
 -- Laws of a run over bytes: what each byte does, bytes joined, and what a run leaves. Assumes nothing.
-use Prim.Native.Nat.{ℕ, suc, ◌+◌, ◌≤◌, ◌<◌}
+use Prim.Native.Nat.{ℕ, zero, suc, ◌+◌, ◌≤◌, ◌<◌}
 use mathlib.Core.Path.{◌≡◌, refl, sym, ap, ◌∙◌, subst}
 use mathlib.Core.Logic.{◌⊎◌}
 use mathlib.Core.Bool.{Bool, true, false, ◌&&◌}
 use mathlib.Core.List.{List, [], ◌∷◌, ◌++◌}
 use native.Mathlib.Omega.{arith}
 use lib.Dec.{ltb}
-use lib.ListN.{length, length-append}
+use lib.ListN.{length, get_or, length-append}
 use borrow.Author.Tests.{lt-ltb, le-ltb, ltb-true}
 use Rattle.limits.specs.Limits.{held_limit}
-use Rattle.numbers.proofs.Tests.{both, both_true, left_false, right_false, cond-true, cond-false}
-use Rattle.vint.specs.declared.Unvint.{Unvint}
-use Rattle.vint.specs.declared.Unvint.TheVariants.{Number, Refused}
-use Rattle.vint.specs.Vint.{read_vint}
+use Rattle.numbers.proofs.Tests.{both, both_true, same_test, left_false, right_false, cond-true, cond-false}
+use Rattle.std.specs.Prelude.{Ok, Err}
+use Rattle.limits.specs.declared.Refusal.{Refusal}
+use Rattle.limits.specs.declared.Refusal.TheVariants.{NoEnd, AnotherForm}
+use Rattle.vint.specs.Vint.{Unvint, read_vint}
 use Rattle.vint.proofs.Laws.{refusal_listed}
 use Rattle.number_pieces.specs.Run.{Step, holds, gives, faults, on_vint, step_of, End, waits, stops, Ran, ran}
 use Rattle.number_pieces.specs.Run.{in_front, on_step, run_of, at_end}
@@ -50,7 +51,7 @@ unfolding run_of
 run_none h i = refl
 
 -- a refusal stays one at the lane's end
-pub end_stops : (last : Bool) (i n j : ℕ) → at_end last i (stops n j) ≡ stops n j
+pub end_stops : (last : Bool) (i : ℕ) (n : Refusal) (j : ℕ) → at_end last i (stops n j) ≡ stops n j
 end_stops true i n j = refl
 end_stops false i n j = refl
 
@@ -95,6 +96,24 @@ top_snoc (x ∷ h) b e l =
     let p = both (ltb x 128) (no_top h) e in
     both_true (ltb x 128) (no_top (h ++ (b ∷ []))) p.0 (top_snoc h b p.1 l)
 
+-- each byte is low
+low_each : (l : List ℕ) → no_top l ≡ true → (k : ℕ) → k < length l → get_or l k 0 < 128
+unfolding no_top
+low_each [] e k h = absurd (omega arith)
+low_each (x ∷ l) e zero h = ltb-true x 128 (both (ltb x 128) (no_top l) e).0
+low_each (x ∷ l) e (suc k) h = low_each l (both (ltb x 128) (no_top l) e).1 k (omega arith)
+
+each_low : (l : List ℕ) → ((k : ℕ) → k < length l → get_or l k 0 < 128) → no_top l ≡ true
+unfolding no_top
+each_low [] f = refl
+each_low (x ∷ l) f =
+    both_true (ltb x 128) (no_top l) (lt-ltb x 128 (f 0 (omega arith))) (each_low l (λ k h. f (suc k) (omega arith)))
+
+-- told by a test
+pub low_is : (t : Bool) (l : List ℕ) → (t ≡ true → (k : ℕ) → k < length l → get_or l k 0 < 128)
+    → (((k : ℕ) → k < length l → get_or l k 0 < 128) → t ≡ true) → t ≡ no_top l
+low_is t l f g = same_test t (no_top l) (λ e. each_low l (f e)) (λ e. g (low_each l e))
+
 none_held : Holdable []
 unfolding no_top
 none_held = record { few = omega arith; low = refl }
@@ -102,7 +121,7 @@ none_held = record { few = omega arith; low = refl }
 abbrev FairStep : Step → Type 0
 FairStep (holds h) = Holdable h
 FairStep (gives n) = Unit {0}
-FairStep (faults n) = (n ≡ 11) ⊎ (n ≡ 12)
+FairStep (faults r) = (r ≡ NoEnd) ⊎ (r ≡ AnotherForm)
 
 step-fair : (h : List ℕ) (b : ℕ) → Holdable h → FairStep (step_of h b)
 step-fair h b H = go (is_held h b) refl (read_vint (h ++ (b ∷ []))) refl
@@ -114,14 +133,14 @@ step-fair h b H = go (is_held h b) refl (read_vint (h ++ (b ∷ []))) refl
           few = simp length-append (omega (arith, ltb-true (length h) held_limit p.1));
           low = top_snoc h b H.low (ltb-true b 128 p.0);
         })
-    go false e (Number n k) f = subst FairStep (sym (step_asks h b e ∙ ap on_vint f)) tt
-    go false e (Refused n) f = subst FairStep (sym (step_asks h b e ∙ ap on_vint f)) (refusal_listed (h ++ (b ∷ [])) n f)
+    go false e (Ok n) f = subst FairStep (sym (step_asks h b e ∙ ap on_vint f)) tt
+    go false e (Err n) f = subst FairStep (sym (step_asks h b e ∙ ap on_vint f)) (refusal_listed (h ++ (b ∷ [])) n f)
 
 abbrev pub FairEnd : End → Type 0
 FairEnd (waits h) = Holdable h
-FairEnd (stops n i) = (n ≡ 11) ⊎ (n ≡ 12)
+FairEnd (stops r i) = (r ≡ NoEnd) ⊎ (r ≡ AnotherForm)
 
--- bytes that can be held or 11 or 12, and no more numbers than bytes
+-- bytes that can be held or a vint's refusal, and no more numbers than bytes
 pub record Fair (n : ℕ) (r : Ran) : Type 0 where
   pub end_fair : FairEnd r.end
   pub no_more : length r.numbers ≤ n

@@ -2,31 +2,30 @@
 -- come to. Assumes nothing.
 use Prim.Native.Nat.{ℕ, suc, ◌+◌, ◌-◌, ◌≤◌, ◌<◌}
 use mathlib.Core.Path.{◌≡◌, refl, sym, ap, ◌∙◌, subst}
-use mathlib.Core.Logic.{⊎_elim}
 use mathlib.Core.Bool.{Bool, true, false, cond, ◌&&◌}
 use mathlib.Core.List.{List, [], ◌∷◌, ◌++◌}
 use native.Mathlib.Numerals.{add-one}
 use native.Mathlib.Omega.{arith}
 use lib.Dec.{leb, ltb, eqb}
-use lib.ListN.{length, take, drop, get_or, set, replicate, length-set, drop_of_length-le}
+use lib.ListN.{length, take, drop, get_or, set, length-set, drop_of_length-le}
 use lib.Seq.{length-take-le, take-suc-set, drop-cons}
-use borrow.Author.Tests.{le-leb, lt-leb, lt-ltb, eq-eqb, ne_eqb, eqb-true, eqb-false, leb-true, ltb-true}
+use borrow.Author.Tests.{le-leb, lt-leb, lt-ltb, ne_eqb, leb-true, ltb-true}
 use Rattle.limits.specs.Limits.{held_limit, fed_limit}
 use Rattle.numbers.proofs.Tests.{both, same_test}
 use Rattle.spans.specs.Span.{overwrite}
 use Rattle.spans.proofs.Laws.{store-one, overwrite_none, overwrite-append}
-use Rattle.vint.specs.declared.Unvint.{Unvint}
-use Rattle.vint.specs.declared.Unvint.TheVariants.{Number, Refused}
-use Rattle.vint.specs.Vint.{read_vint}
-use Rattle.vint.proofs.Laws.{refusal_listed}
+use Rattle.std.specs.Prelude.{Option, Some, None, Ok, Err}
+use Rattle.std.specs.Option.{is_none, is_some}
+use Rattle.limits.specs.declared.Refusal.{Refusal}
+use Rattle.limits.specs.declared.Refusal.TheVariants.{NoEnd}
+use Rattle.vint.specs.Vint.{Unvint, read_vint}
 use Rattle.number_pieces.specs.declared.Pieces.{Pieces}
 use Rattle.number_pieces.specs.declared.Run.{Run}
 use Rattle.number_pieces.specs.declared.Fed.{Fed}
-use Rattle.number_pieces.specs.declared.Stop.TheVariants.{Going, Refused as Declined}
 use Rattle.number_pieces.specs.Run.{Step, holds, gives, faults, on_vint, step_of, End, waits, stops, Ran, ran}
 use Rattle.number_pieces.specs.Run.{in_front, run_of, at_end}
-use Rattle.number_pieces.specs.Feed.{held_of, holding, no_top, takes, out, fed, on_end, on_run}
-use Rattle.number_pieces.specs.Turn.{Turned, turned, run, begun, on_turn, turn_of, turns_of, finish_of}
+use Rattle.number_pieces.specs.Feed.{held_of, holding, no_top, takes, out, fed, stopped, on_end, on_run}
+use Rattle.number_pieces.specs.Turn.{Turned, turned, run, begun, on_turn, turn_of, turns_of, finish_by, finish_of}
 use Rattle.number_pieces.proofs.Runs.{is_held, step-held, step_asks, run_step, end_stops}
 
 -- ---- whether a piece is taken
@@ -62,7 +61,7 @@ turn_is s b o x e = rw e
 data Turning (s : Run) (b : ℕ) : Type 0 where
   held_too : s.count < held_limit → step_of (held_in s) b ≡ holds (held_in s ++ (b ∷ [])) → Turning s b
   given : (n : ℕ) → step_of (held_in s) b ≡ gives n → Turning s b
-  faulty : (n : ℕ) → (n ≡ 0 → ⊥) → step_of (held_in s) b ≡ faults n → Turning s b
+  faulty : (r : Refusal) → step_of (held_in s) b ≡ faults r → Turning s b
 
 module _ (s : Run) (b : ℕ) (long : length s.held ≡ held_limit) (few : s.count ≤ held_limit) where
   -- the code tests the count
@@ -71,7 +70,7 @@ module _ (s : Run) (b : ℕ) (long : length s.held ≡ held_limit) (few : s.coun
       ap (λ (n : ℕ). ltb b 128 && ltb n held_limit) (sym (length-take-le s.count s.held (omega arith)))
 
   pub turn_holds : (o : List ℕ) → (ltb b 128 && ltb s.count held_limit) ≡ true
-      → turned (run (set s.held s.count b) (s.count + 1) s.numbers (s.taken + 1) 0) o ≡ turn_of s b o
+      → turned (run (set s.held s.count b) (s.count + 1) s.numbers (s.taken + 1) None) o ≡ turn_of s b o
   turn_holds o e = sym (turn_is s b o _ (step-held (held_in s) b (sym same_tests ∙ e)))
 
   asks : (ltb b 128 && ltb s.count held_limit) ≡ false → (r : Unvint) → read_vint (held_in s ++ (b ∷ [])) ≡ r
@@ -90,10 +89,8 @@ module _ (s : Run) (b : ℕ) (long : length s.held ≡ held_limit) (few : s.coun
       go true e r f =
           held_too (ltb-true s.count held_limit (both (ltb b 128) (ltb s.count held_limit) e).1)
           (step-held (held_in s) b (sym same_tests ∙ e))
-      go false e (Number n k) f = given n (asks e (Number n k) f)
-      go false e (Refused n) f =
-          faulty n (λ z. ⊎_elim (λ (y : n ≡ 11). omega arith) (λ (y : n ≡ 12). omega arith)
-          (refusal_listed (held_in s ++ (b ∷ [])) n f)) (asks e (Refused n) f)
+      go false e (Ok n) f = given n.number (asks e (Ok n) f)
+      go false e (Err r) f = faulty r (asks e (Err r) f)
 
 -- ---- some bytes
 
@@ -101,15 +98,15 @@ turns_none : (s : Run) (o : List ℕ) → turns_of s [] o ≡ turned s o
 unfolding turns_of
 turns_none s o = refl
 
-turns_on : (s : Run) (b : ℕ) (bs o : List ℕ) (t : Turned) → t ≡ turn_of s b o → t.run.fault ≡ 0
+turns_on : (s : Run) (b : ℕ) (bs o : List ℕ) (t : Turned) → t ≡ turn_of s b o → is_none t.run.fault ≡ true
     → turns_of s (b ∷ bs) o ≡ turns_of t.run bs t.output
 unfolding turns_of
-turns_on s b bs o t e z = rw (← e, eq-eqb t.run.fault 0 z)
+turns_on s b bs o t e z = rw (← e, z)
 
-turns_off : (s : Run) (b : ℕ) (bs o : List ℕ) (t : Turned) → t ≡ turn_of s b o → (t.run.fault ≡ 0 → ⊥)
+turns_off : (s : Run) (b : ℕ) (bs o : List ℕ) (t : Turned) → t ≡ turn_of s b o → is_none t.run.fault ≡ false
     → turns_of s (b ∷ bs) o ≡ t
 unfolding turns_of
-turns_off s b bs o t e z = rw (← e, ne_eqb t.run.fault 0 z)
+turns_off s b bs o t e z = rw (← e, z)
 
 -- what some bytes, the first of them at place i, come to in the code
 pub record Came (s : Run) (o bs : List ℕ) (i : ℕ) (t : Turned) : Type 0 where
@@ -119,13 +116,13 @@ pub record Came (s : Run) (o bs : List ℕ) (i : ℕ) (t : Turned) : Type 0 wher
   pub within : t.run.taken ≤ s.taken + length bs
   pub counted : t.run.numbers ≡ s.numbers + length (run_of (held_in s) i bs).numbers
   pub output : t.output ≡ overwrite s.numbers (run_of (held_in s) i bs).numbers o
-  pub all-taken : t.run.fault ≡ 0 → t.run.taken ≡ s.taken + length bs
-  pub waiting : t.run.fault ≡ 0 → (run_of (held_in s) i bs).end ≡ waits (held_in t.run)
-  pub stopping : (t.run.fault ≡ 0 → ⊥)
-      → (run_of (held_in s) i bs).end ≡ stops t.run.fault (i + (t.run.taken - s.taken))
+  pub all-taken : t.run.fault ≡ None → t.run.taken ≡ s.taken + length bs
+  pub waiting : t.run.fault ≡ None → (run_of (held_in s) i bs).end ≡ waits (held_in t.run)
+  pub stopping : (r : Refusal) → t.run.fault ≡ Some r
+      → (run_of (held_in s) i bs).end ≡ stops r (i + (t.run.taken - s.taken))
 
 -- none
-came_none : (s : Run) (o : List ℕ) (i : ℕ) → length s.held ≡ held_limit → s.count ≤ held_limit → s.fault ≡ 0
+came_none : (s : Run) (o : List ℕ) (i : ℕ) → length s.held ≡ held_limit → s.count ≤ held_limit → s.fault ≡ None
     → Came s o [] i (turned s o)
 unfolding run_of
 came_none s o i long few z = record {
@@ -137,13 +134,13 @@ came_none s o i long few z = record {
   output = sym (overwrite_none s.numbers o);
   all-taken = λ e. omega arith;
   waiting = λ e. refl;
-  stopping = λ f. absurd (f z);
+  stopping = λ r f. cc;
 }
 
 -- a byte that is held, and those behind it
 came_held : (s : Run) (b : ℕ) (o bs : List ℕ) (i : ℕ) (t : Turned) → s.count < held_limit → length s.held ≡ held_limit
     → step_of (held_in s) b ≡ holds (held_in s ++ (b ∷ []))
-    → Came (run (set s.held s.count b) (s.count + 1) s.numbers (s.taken + 1) 0) o bs (suc i) t
+    → Came (run (set s.held s.count b) (s.count + 1) s.numbers (s.taken + 1) None) o bs (suc i) t
     → Came s o (b ∷ bs) i t
 came_held s b o bs i t l long e C =
     let h : take (s.count + 1) (set s.held s.count b) ≡ held_in s ++ (b ∷ []) =
@@ -160,13 +157,12 @@ came_held s b o bs i t l long e C =
       output = C.output ∙ ap (λ (x : Ran). overwrite s.numbers x.numbers o) r;
       all-taken = λ z. C.all-taken z ∙ omega arith;
       waiting = λ z. sym (ap (λ (x : Ran). x.end) r) ∙ C.waiting z;
-      stopping = λ z. sym (ap (λ (x : Ran). x.end) r) ∙ C.stopping z
-          ∙ ap (stops t.run.fault) (omega (arith, C.least));
+      stopping = λ f z. sym (ap (λ (x : Ran). x.end) r) ∙ C.stopping f z ∙ ap (stops f) (omega (arith, C.least));
     }
 
 -- one that gives a number
 came_given : (s : Run) (b : ℕ) (o bs : List ℕ) (i n : ℕ) (t : Turned) → step_of (held_in s) b ≡ gives n
-    → Came (run s.held 0 (s.numbers + 1) (s.taken + 1) 0) (set o s.numbers n) bs (suc i) t
+    → Came (run s.held 0 (s.numbers + 1) (s.taken + 1) None) (set o s.numbers n) bs (suc i) t
     → Came s o (b ∷ bs) i t
 came_given s b o bs i n t e C =
     let ms = (run_of [] (suc i) bs).numbers in
@@ -183,16 +179,14 @@ came_given s b o bs i n t e C =
       output = C.output ∙ w ∙ ap (λ (x : Ran). overwrite s.numbers x.numbers o) r;
       all-taken = λ z. C.all-taken z ∙ omega arith;
       waiting = λ z. sym (ap (λ (x : Ran). x.end) r) ∙ C.waiting z;
-      stopping = λ z. sym (ap (λ (x : Ran). x.end) r) ∙ C.stopping z
-          ∙ ap (stops t.run.fault) (omega (arith, C.least));
+      stopping = λ f z. sym (ap (λ (x : Ran). x.end) r) ∙ C.stopping f z ∙ ap (stops f) (omega (arith, C.least));
     }
 
 -- one that shows a fault
-came_faulty : (s : Run) (b : ℕ) (o bs : List ℕ) (i n : ℕ) → length s.held ≡ held_limit → s.count ≤ held_limit
-    → (n ≡ 0 → ⊥)
-    → step_of (held_in s) b ≡ faults n
-    → Came s o (b ∷ bs) i (turned (run s.held s.count s.numbers s.taken n) o)
-came_faulty s b o bs i n long few z e =
+came_faulty : (s : Run) (b : ℕ) (o bs : List ℕ) (i : ℕ) (n : Refusal) → length s.held ≡ held_limit
+    → s.count ≤ held_limit → step_of (held_in s) b ≡ faults n
+    → Came s o (b ∷ bs) i (turned (run s.held s.count s.numbers s.taken (Some n)) o)
+came_faulty s b o bs i n long few e =
     let r : run_of (held_in s) i (b ∷ bs) ≡ ran [] (stops n i) = run_step (held_in s) i b bs _ e in
     record {
       long = long;
@@ -201,19 +195,22 @@ came_faulty s b o bs i n long few z e =
       within = omega arith;
       counted = rw r (omega arith);
       output = rw r (sym (overwrite_none s.numbers o));
-      all-taken = λ y. absurd (z y);
-      waiting = λ y. absurd (z y);
-      stopping = λ f. rw r (ap (stops n) (omega arith));
+      all-taken = λ y. cc;
+      waiting = λ y. cc;
+      stopping = λ f y.
+          let same : n ≡ f = cc in
+          ap (λ (x : Ran). x.end) r ∙ ap (stops n) (omega arith)
+          ∙ ap (λ (x : Refusal). stops x (i + (s.taken - s.taken))) same;
     }
 
-came : (bs : List ℕ) (s : Run) (o : List ℕ) (i : ℕ) → length s.held ≡ held_limit → s.count ≤ held_limit → s.fault ≡ 0
+came : (bs : List ℕ) (s : Run) (o : List ℕ) (i : ℕ) → length s.held ≡ held_limit → s.count ≤ held_limit → s.fault ≡ None
     → Came s o bs i (turns_of s bs o)
 came [] s o i long few z = subst (Came s o [] i) (sym (turns_none s o)) (came_none s o i long few z)
 came (b ∷ bs) s o i long few z =
     go (turning s b long few)
-    (λ l. came bs (run (set s.held s.count b) (s.count + 1) s.numbers (s.taken + 1) 0) o (suc i)
+    (λ l. came bs (run (set s.held s.count b) (s.count + 1) s.numbers (s.taken + 1) None) o (suc i)
     (length-set s.held s.count b ∙ long) l refl)
-    (λ n. came bs (run s.held 0 (s.numbers + 1) (s.taken + 1) 0) (set o s.numbers n) (suc i) long (omega arith)
+    (λ n. came bs (run s.held 0 (s.numbers + 1) (s.taken + 1) None) (set o s.numbers n) (suc i) long (omega arith)
     refl)
   where
     Rest : Run → List ℕ → Type 0
@@ -221,8 +218,8 @@ came (b ∷ bs) s o i long few z =
 
     go : Turning s b
         → (s.count + 1 ≤ held_limit
-        → Rest (run (set s.held s.count b) (s.count + 1) s.numbers (s.taken + 1) 0) o)
-        → ((n : ℕ) → Rest (run s.held 0 (s.numbers + 1) (s.taken + 1) 0) (set o s.numbers n))
+        → Rest (run (set s.held s.count b) (s.count + 1) s.numbers (s.taken + 1) None) o)
+        → ((n : ℕ) → Rest (run s.held 0 (s.numbers + 1) (s.taken + 1) None) (set o s.numbers n))
         → Came s o (b ∷ bs) i (turns_of s (b ∷ bs) o)
     go (held_too l e) f g =
         subst (Came s o (b ∷ bs) i) (sym (turns_on s b bs o _ (sym (turn_is s b o _ e)) refl))
@@ -230,9 +227,9 @@ came (b ∷ bs) s o i long few z =
     go (given n e) f g =
         subst (Came s o (b ∷ bs) i) (sym (turns_on s b bs o _ (sym (turn_is s b o _ e)) refl))
         (came_given s b o bs i n _ e (g n))
-    go (faulty n y e) f g =
-        subst (Came s o (b ∷ bs) i) (sym (turns_off s b bs o _ (sym (turn_is s b o _ e)) y))
-        (came_faulty s b o bs i n long few y e)
+    go (faulty n e) f g =
+        subst (Came s o (b ∷ bs) i) (sym (turns_off s b bs o _ (sym (turn_is s b o _ e)) refl))
+        (came_faulty s b o bs i n long few e)
 
 -- a whole piece
 pub came-piece : (st : Pieces) (piece output : List ℕ) (t : Turned) → length st.held ≡ held_limit
@@ -243,37 +240,42 @@ came-piece st piece output t l f e =
 
 -- ---- the loop over a piece
 
--- what the whole piece comes to is what the rest comes to from here
-pub record Taking (first : Run) (piece before : List ℕ) (s : Run) (o : List ℕ) : Type 0 where
-  pub within : s.taken ≤ length piece
+-- the code tests for a fault
+pub faultless : (o : Option Refusal) → is_some o ≡ false → is_none o ≡ true
+faultless None e = refl
+faultless (Some r) e = sym e
+
+pub is_fault : (o : Option Refusal) → is_some o ≡ true → is_none o ≡ false
+is_fault None e = sym e
+is_fault (Some r) e = refl
+
+-- what the whole piece comes to is what the rest comes to from place i
+pub record Taking (first : Run) (piece before : List ℕ) (s : Run) (o : List ℕ) (i : ℕ) : Type 0 where
+  pub at : s.taken ≡ i
+  pub within : i ≤ length piece
   pub long : length s.held ≡ held_limit
   pub few : s.count ≤ held_limit
-  pub no_more : s.numbers ≤ s.taken
+  pub no_more : s.numbers ≤ i
   pub same : length o ≡ length before
-  pub whole : turns_of s (drop s.taken piece) o ≡ turns_of first piece before
+  pub whole : turns_of s (drop i piece) o ≡ turns_of first piece before
 
-pub taking_starts : (st : Pieces) (piece before : List ℕ) → length st.held ≡ held_limit → st.count ≤ held_limit
-    → Taking (begun st) piece before (begun st) before
-taking_starts st piece before l f =
-    record { within = omega arith; long = l; few = f; no_more = omega arith; same = refl; whole = refl }
-
-module _ {first : Run} {piece before : List ℕ} {s : Run} {o : List ℕ}
-    (T : Taking first piece before s o) (l : s.taken < length piece) where
+module _ {first : Run} {piece before : List ℕ} {s : Run} {o : List ℕ} {i : ℕ}
+    (T : Taking first piece before s o i) (l : i < length piece) where
   abbrev b : ℕ
-  b = get_or piece s.taken 0
+  b = get_or piece i 0
 
   abbrev rest : List ℕ
-  rest = drop (suc s.taken) piece
+  rest = drop (suc i) piece
 
   cut : turns_of s (b ∷ rest) o ≡ turns_of first piece before
-  cut = ap (λ (x : List ℕ). turns_of s x o) (sym (drop-cons piece s.taken 0 l)) ∙ T.whole
+  cut = ap (λ (x : List ℕ). turns_of s x o) (sym (drop-cons piece i 0 l)) ∙ T.whole
 
   -- a turn without a fault
   record Turn (r : Run) (o' : List ℕ) : Type 0 where
     long : length r.held ≡ held_limit
     few : r.count ≤ held_limit
-    next : r.fault ≡ 0 → r.taken ≡ suc s.taken
-    no_more : r.fault ≡ 0 → r.numbers ≤ r.taken
+    next : is_none r.fault ≡ true → r.taken ≡ suc i
+    no_more : is_none r.fault ≡ true → r.numbers ≤ suc i
     same : length o' ≡ length o
 
   turned_so : Turn (turn_of s b o).run (turn_of s b o).output
@@ -288,7 +290,7 @@ module _ {first : Run} {piece before : List ℕ} {s : Run} {o : List ℕ}
           (record {
             long = length-set s.held s.count b ∙ T.long;
             few = omega arith;
-            next = λ z. add-one s.taken;
+            next = λ z. omega (arith, T.at);
             no_more = λ z. omega (arith, T.no_more);
             same = refl;
           })
@@ -297,88 +299,43 @@ module _ {first : Run} {piece before : List ℕ} {s : Run} {o : List ℕ}
           (record {
             long = T.long;
             few = omega arith;
-            next = λ z. add-one s.taken;
+            next = λ z. omega (arith, T.at);
             no_more = λ z. omega (arith, T.no_more);
             same = length-set o s.numbers n;
           })
-      go (faulty n y e) =
+      go (faulty n e) =
           subst P (sym (turn_is s b o _ e))
-          (record {
-            long = T.long;
-            few = T.few;
-            next = λ z. absurd (y z);
-            no_more = λ z. absurd (y z);
-            same = refl;
-          })
+          (record { long = T.long; few = T.few; next = λ z. cc; no_more = λ z. absurd cc; same = refl })
 
   module _ (r : Run) (o' : List ℕ) (e : turned r o' ≡ turn_of s b o) where
     turn_here : Turn r o'
     turn_here = subst (λ (t : Turned). Turn t.run t.output) (sym e) turned_so
 
-    pub taking-same : length o' ≡ length before
-    taking-same = turn_here.same ∙ T.same
+    pub taking-on : is_none r.fault ≡ true → Taking first piece before r o' (suc i)
+    taking-on z = record {
+      at = turn_here.next z;
+      within = omega arith;
+      long = turn_here.long;
+      few = turn_here.few;
+      no_more = turn_here.no_more z;
+      same = turn_here.same ∙ T.same;
+      whole = sym (turns_on s b rest o (turned r o') e z) ∙ cut;
+    }
 
-    pub taking-next : r.fault ≡ 0 → r.taken ≡ suc s.taken
-    taking-next z = turn_here.next z
-
-    pub taking-on : r.fault ≡ 0 → Taking first piece before r o'
-    taking-on z =
-        let t = taking-next z in
-        record {
-          within = omega arith;
-          long = turn_here.long;
-          few = turn_here.few;
-          no_more = turn_here.no_more z;
-          same = taking-same;
-          whole =
-              ap (λ (n : ℕ). turns_of r (drop n piece) o') t
-              ∙ sym (turns_on s b rest o (turned r o') e z)
-              ∙ cut;
-        }
-
-    pub taking_off : (r.fault ≡ 0 → ⊥) → turned r o' ≡ turns_of first piece before
+    pub taking_off : is_none r.fault ≡ false → turned r o' ≡ turns_of first piece before
     taking_off z = sym (turns_off s b rest o (turned r o') e z) ∙ cut
 
-pub taking-ends : {first : Run} {piece before : List ℕ} {s : Run} {o : List ℕ} → Taking first piece before s o
-    → length piece ≤ s.taken
-    → turned s o ≡ turns_of first piece before
+pub taking-ends : {first : Run} {piece before : List ℕ} {s : Run} {o : List ℕ} {i : ℕ}
+    → Taking first piece before s o i → length piece ≤ i → turned s o ≡ turns_of first piece before
 taking-ends {piece = piece} {s = s} {o = o} T l =
     sym (turns_none s o) ∙ ap (λ (x : List ℕ). turns_of s x o) (sym (drop_of_length-le piece l)) ∙ T.whole
 
 -- ---- the end of a call
 
-module _ (st : Pieces) (s : Run) (last : Bool) where
-  pub finish_fault : (s.fault ≡ 0 → ⊥)
-      → fed st s.numbers (Declined s.fault (st.fed + s.taken)) ≡ finish_of st s last
-  unfolding finish_of
-  finish_fault z = rw (ne_eqb s.fault 0 z)
-
-  pub finish_cut : s.fault ≡ 0 → (last && ltb 0 s.count) ≡ true
-      → fed st s.numbers (Declined 11 (st.fed + s.taken)) ≡ finish_of st s last
-  unfolding finish_of
-  finish_cut z e = rw (eq-eqb s.fault 0 z, e)
-
-  pub finish_empty : s.fault ≡ 0 → (last && ltb 0 s.count) ≡ false → s.taken ≡ 0
-      → fed st s.numbers Going ≡ finish_of st s last
-  unfolding finish_of
-  finish_empty z e t = rw (eq-eqb s.fault 0 z, e, eq-eqb s.taken 0 t)
-
-  pub finish_on : s.fault ≡ 0 → (last && ltb 0 s.count) ≡ false → (s.taken ≡ 0 → ⊥)
-      → fed (holding (held_in s) (st.fed + s.taken)) s.numbers Going ≡ finish_of st s last
-  unfolding finish_of
-  finish_on z e t = rw (eq-eqb s.fault 0 z, e, ne_eqb s.taken 0 t)
-
--- held bytes and zeros behind them, as the state has them
-pub held_padded : (s : Run) (n : ℕ) → length s.held ≡ held_limit → s.count ≤ held_limit
-    → record { held = held_in s ++ replicate (held_limit - s.count) 0; count = s.count; fed = n } ≡ holding (held_in s) n
-held_padded s n l f =
-    let c = sym (length-take-le s.count s.held (omega arith)) in
-    λ j. record { held = held_in s ++ replicate (held_limit - c j) 0; count = c j; fed = n }
-
 -- all bytes taken: by what is held and whether there were any
 ends : (st : Pieces) (last : Bool) (h p ns o : List ℕ)
-    → cond (last && ltb 0 (length h)) (fed st (length ns) (Declined 11 (st.fed + length p)))
-    (cond (eqb (length p) 0) (fed st (length ns) Going) (fed (holding h (st.fed + length p)) (length ns) Going))
+    → cond (last && ltb 0 (length h)) (stopped st (length ns) NoEnd (st.fed + length p))
+    (cond (eqb (length p) 0) (fed st (length ns) None) (fed (holding h (st.fed + length p)) (length ns) None))
     ≡ (on_end (at_end last (st.fed + length p) (waits h)) st p ns o).answer
 ends st true [] [] ns o = refl
 ends st true [] (x ∷ p) ns o = rw (ne_eqb (length (x ∷ p)) 0 (λ z. omega arith))
@@ -395,7 +352,7 @@ pub finish_is : (st : Pieces) (piece : List ℕ) (last : Bool) (output : List �
     → Came (begun st) output piece st.fed t
     → out (finish_of st t.run last) t.output ≡ on_run (run_of (held_of st) st.fed piece) st piece last output
 unfolding finish_of
-finish_is st piece last output t C = go (eqb t.run.fault 0) refl
+finish_is st piece last output t C = go t.run.fault refl
   where
     R : Ran
     R = run_of (held_of st) st.fed piece
@@ -410,30 +367,29 @@ finish_is st piece last output t C = go (eqb t.run.fault 0) refl
         let o = same_output (at_end last (st.fed + length piece) R.end) st piece R.numbers output in
         λ j. out (e j) ((C.output ∙ sym o) j)
 
-    stopped : (t.run.fault ≡ 0 → ⊥) → fed st t.run.numbers (Declined t.run.fault (st.fed + t.run.taken))
+    stopped-so : (r : Refusal) → t.run.fault ≡ Some r
+        → stopped st t.run.numbers r (st.fed + t.run.taken)
         ≡ (on_end (at_end last (st.fed + length piece) R.end) st piece R.numbers output).answer
-    stopped z =
+    stopped-so r z =
         let k : t.run.taken ≡ t.run.taken - 0 = omega arith in
-        (λ j. fed st (n j) (Declined t.run.fault (st.fed + k j)))
+        (λ j. stopped st (n j) r (st.fed + k j))
         ∙ ap (λ (e : End). (on_end e st piece R.numbers output).answer)
-        (sym (ap (at_end last (st.fed + length piece)) (C.stopping z) ∙ end_stops last (st.fed + length piece) _ _))
+        (sym (ap (at_end last (st.fed + length piece)) (C.stopping r z) ∙ end_stops last (st.fed + length piece) _ _))
 
-    gone : t.run.fault ≡ 0
-        → cond (last && ltb 0 t.run.count) (fed st t.run.numbers (Declined 11 (st.fed + t.run.taken)))
-        (cond (eqb t.run.taken 0) (fed st t.run.numbers Going)
-        (fed (holding (held_in t.run) (st.fed + t.run.taken)) t.run.numbers Going))
+    gone : t.run.fault ≡ None
+        → finish_by None st t.run last
         ≡ (on_end (at_end last (st.fed + length piece) R.end) st piece R.numbers output).answer
     gone z =
         let k : t.run.taken ≡ length piece = omega (arith, C.all-taken z) in
         let c : t.run.count ≡ length (held_in t.run) =
         sym (length-take-le t.run.count t.run.held (omega (arith, C.long, C.few))) in
-        (λ j. cond (last && ltb 0 (c j)) (fed st (n j) (Declined 11 (st.fed + k j)))
-        (cond (eqb (k j) 0) (fed st (n j) Going) (fed (holding (held_in t.run) (st.fed + k j)) (n j) Going)))
+        (λ j. cond (last && ltb 0 (c j)) (stopped st (n j) NoEnd (st.fed + k j))
+        (cond (eqb (k j) 0) (fed st (n j) None) (fed (holding (held_in t.run) (st.fed + k j)) (n j) None)))
         ∙ ends st last (held_in t.run) piece R.numbers output
         ∙ ap (λ (e : End). (on_end (at_end last (st.fed + length piece) e) st piece R.numbers output).answer)
         (sym (C.waiting z))
 
-    go : (c : Bool) → eqb t.run.fault 0 ≡ c
-        → out (finish_of st t.run last) t.output ≡ on_run R st piece last output
-    go true e = with_output _ (rw e (gone (eqb-true t.run.fault 0 e)))
-    go false e = with_output _ (rw e (stopped (eqb-false t.run.fault 0 e)))
+    go : (f : Option Refusal) → t.run.fault ≡ f
+        → out (finish_by f st t.run last) t.output ≡ on_run R st piece last output
+    go None e = with_output _ (gone e)
+    go (Some r) e = with_output _ (stopped-so r e)

@@ -9,12 +9,12 @@ use lib.Dec.{leb}
 use lib.ListN.{length, take, drop, length-append}
 use lib.Seq.{append_snoc, take_at, drop-append_seam}
 use Rattle.limits.specs.Limits.{vint_limit}
-use Rattle.vint.specs.declared.Unvint.{Unvint}
-use Rattle.vint.specs.declared.Unvint.TheVariants.{Number, Refused}
-use Rattle.vint.specs.Vint.{write_vint, Taken, ended, unended, grouped, take_vint, last_group, is_another_form, answer_of}
+use Rattle.std.specs.Prelude.{Err}
+use Rattle.limits.specs.declared.Refusal.TheVariants.{NoEnd, AnotherForm}
+use Rattle.vint.specs.Vint.{Unvint, number, write_vint, Taken, ended, unended, grouped, take_vint, last_group, is_another_form, answer_of}
 use Rattle.vint.specs.Vint.{read_vint}
 use Rattle.vint.proofs.Laws.{below_or, take_last, take_on, Took, took_last, took-on, took, took_back, took-front}
-use Rattle.vint.proofs.Laws.{taken-within}
+use Rattle.vint.proofs.Laws.{taken-within, same_number}
 use Rattle.vint.proofs.Forms.{read_back}
 use Rattle.number_pieces.specs.Run.{on_vint, waits, stops, ran, in_front, on_step, run_of}
 use Rattle.number_pieces.specs.Promises.{vints_of, Each32}
@@ -72,12 +72,12 @@ low_first w b bs u =
 low_rest : (w b : ℕ) (bs : List ℕ) → take_vint (suc w) (b ∷ bs) ≡ unended → take_vint w bs ≡ unended
 low_rest w b bs u = grouped_un b (take_vint w bs) (sym (take_on w b bs (low_first w b bs u)) ∙ u)
 
-unended_11 : (bs : List ℕ) → take_vint vint_limit bs ≡ unended → read_vint bs ≡ Refused 11
+unended_11 : (bs : List ℕ) → take_vint vint_limit bs ≡ unended → read_vint bs ≡ Err NoEnd
 unfolding answer_of
 unended_11 bs u = ap answer_of u
 
 record Unended (w : ℕ) (bs h : List ℕ) (i : ℕ) : Type 0 where
-  full : w ≤ length bs → run_of h i bs ≡ ran [] (stops 11 (i + (w - 1)))
+  full : w ≤ length bs → run_of h i bs ≡ ran [] (stops NoEnd (i + (w - 1)))
   few : length bs < w → run_of h i bs ≡ ran [] (waits (h ++ bs))
 
 unended_runs : (w : ℕ) (bs h : List ℕ) (i : ℕ) → length h + suc w ≡ vint_limit → take_vint vint_limit (h ++ bs) ≡ unended
@@ -96,7 +96,7 @@ unended_runs zero (b ∷ bs) h i e a u =
     record {
       full = λ k. run_step h i b bs _
           (step_asks h b (not_held_fifth h b (omega arith)) ∙ ap on_vint (unended_11 (h ++ (b ∷ [])) u5))
-          ∙ ap (λ (x : ℕ). ran [] (stops 11 x)) z;
+          ∙ ap (λ (x : ℕ). ran [] (stops NoEnd x)) z;
       few = λ k. absurd (omega arith);
     }
 unended_runs (suc w) (b ∷ bs) h i e a u =
@@ -107,57 +107,57 @@ unended_runs (suc w) (b ∷ bs) h i e a u =
     (low_rest (suc w) b bs u) in
     let z : suc i + (suc w - 1) ≡ i + (suc (suc w) - 1) = omega arith in
     record {
-      full = λ k. s ∙ r.full (omega arith) ∙ ap (λ (x : ℕ). ran [] (stops 11 x)) z;
+      full = λ k. s ∙ r.full (omega arith) ∙ ap (λ (x : ℕ). ran [] (stops NoEnd x)) z;
       few = λ k. s ∙ r.few (omega arith) ∙ ap (λ (x : List ℕ). ran [] (waits x)) (append_snoc h b bs);
     }
 
 -- ---- the reader's answers, one by one
 
 -- what is taken, by what is answered
-answered_number : (bs : List ℕ) (n k : ℕ) → read_vint bs ≡ Number n k → take_vint vint_limit bs ≡ ended n k
+answered_number : (bs : List ℕ) (n k : ℕ) → read_vint bs ≡ number n k → take_vint vint_limit bs ≡ ended n k
 unfolding answer_of
 answered_number bs n k e = go (take_vint vint_limit bs) refl e
   where
-    either : (c : Bool) (v j : ℕ) → take_vint vint_limit bs ≡ ended v j → cond c (Refused 12) (Number v j) ≡ Number n k
+    either : (c : Bool) (v j : ℕ) → take_vint vint_limit bs ≡ ended v j → ◌≡◌ {A = Unvint} (cond c (Err AnotherForm) (number v j)) (number n k)
         → take_vint vint_limit bs ≡ ended n k
-    either true v j p e = let z : ◌≡◌ {A = ℕ} 0 1 = cc in absurd (omega arith)
-    either false v j p e = let x : v ≡ n = cc in let y : j ≡ k = cc in p ∙ (λ i. ended (x i) (y i))
+    either true v j p e = cc
+    either false v j p e = let (x, y) = same_number v j n k e in p ∙ (λ i. ended (x i) (y i))
 
-    go : (t : Taken) → take_vint vint_limit bs ≡ t → answer_of t ≡ Number n k → take_vint vint_limit bs ≡ ended n k
+    go : (t : Taken) → take_vint vint_limit bs ≡ t → answer_of t ≡ number n k → take_vint vint_limit bs ≡ ended n k
     go (ended v j) p e = either (is_another_form j (last_group v j)) v j p e
-    go unended p e = let z : ◌≡◌ {A = ℕ} 0 1 = cc in absurd (omega arith)
+    go unended p e = cc
 
-answered_11 : (bs : List ℕ) → read_vint bs ≡ Refused 11 → take_vint vint_limit bs ≡ unended
+answered_11 : (bs : List ℕ) → read_vint bs ≡ Err NoEnd → take_vint vint_limit bs ≡ unended
 unfolding answer_of
 answered_11 bs e = go (take_vint vint_limit bs) refl e
   where
-    either : (c : Bool) (v j : ℕ) → cond c (Refused 12) (Number v j) ≡ Refused 11 → take_vint vint_limit bs ≡ unended
-    either true v j e = let z : ◌≡◌ {A = ℕ} 11 12 = cc in absurd (omega arith)
-    either false v j e = let z : ◌≡◌ {A = ℕ} 0 1 = cc in absurd (omega arith)
+    either : (c : Bool) (v j : ℕ) → ◌≡◌ {A = Unvint} (cond c (Err AnotherForm) (number v j)) (Err NoEnd) → take_vint vint_limit bs ≡ unended
+    either true v j e = cc
+    either false v j e = cc
 
-    go : (t : Taken) → take_vint vint_limit bs ≡ t → answer_of t ≡ Refused 11 → take_vint vint_limit bs ≡ unended
+    go : (t : Taken) → take_vint vint_limit bs ≡ t → answer_of t ≡ Err NoEnd → take_vint vint_limit bs ≡ unended
     go (ended v j) p e = either (is_another_form j (last_group v j)) v j e
     go unended p e = p
 
 -- an accepted vint is given out, and the run goes on behind it
-pub number_given : (i : ℕ) (bs : List ℕ) (n k : ℕ) → read_vint bs ≡ Number n k
+pub number_given : (i : ℕ) (bs : List ℕ) (n k : ℕ) → read_vint bs ≡ number n k
     → run_of [] i bs ≡ in_front n (run_of [] (i + k) (drop k bs))
 number_given i bs n k e =
     ended_runs i bs n k (answered_number bs n k e)
     ∙ ap (λ (r : Unvint). on_step (on_vint r) (i + (k - 1)) (λ g. run_of g (i + k) (drop k bs))) e
 
 -- another form stops it at the vint's last byte
-pub fault_12 : (i : ℕ) (bs : List ℕ) (v k : ℕ) → take_vint vint_limit bs ≡ ended v k → read_vint bs ≡ Refused 12
-    → run_of [] i bs ≡ ran [] (stops 12 (i + (k - 1)))
+pub fault_12 : (i : ℕ) (bs : List ℕ) (v k : ℕ) → take_vint vint_limit bs ≡ ended v k → read_vint bs ≡ Err AnotherForm
+    → run_of [] i bs ≡ ran [] (stops AnotherForm (i + (k - 1)))
 fault_12 i bs v k t e =
     ended_runs i bs v k t ∙ ap (λ (r : Unvint). on_step (on_vint r) (i + (k - 1)) (λ g. run_of g (i + k) (drop k bs))) e
 
 -- no end stops it at the fifth byte; fewer bytes wait
-pub fault_11 : (i : ℕ) (bs : List ℕ) → read_vint bs ≡ Refused 11 → vint_limit ≤ length bs
-    → run_of [] i bs ≡ ran [] (stops 11 (i + (vint_limit - 1)))
+pub fault_11 : (i : ℕ) (bs : List ℕ) → read_vint bs ≡ Err NoEnd → vint_limit ≤ length bs
+    → run_of [] i bs ≡ ran [] (stops NoEnd (i + (vint_limit - 1)))
 fault_11 i bs e l = let u = answered_11 bs e in (unended_runs 4 bs [] i refl u u).full l
 
-pub fewer_wait : (i : ℕ) (bs : List ℕ) → read_vint bs ≡ Refused 11 → length bs < vint_limit
+pub fewer_wait : (i : ℕ) (bs : List ℕ) → read_vint bs ≡ Err NoEnd → length bs < vint_limit
     → run_of [] i bs ≡ ran [] (waits bs)
 fewer_wait i bs e l = let u = answered_11 bs e in (unended_runs 4 bs [] i refl u u).few l
 

@@ -1,10 +1,10 @@
 -- RULES AC9, X7. Worked pieces, a row a case: what the call says, and the whole answer with the output where it
 -- matters.
-use Rattle.std.specs.Prelude.{ℕ, ◌≡◌, refl, true, false, List, [], ◌∷◌, replicate}
+use Rattle.std.specs.Prelude.{ℕ, ◌≡◌, refl, true, false, List, [], ◌∷◌, replicate, None}
 use Rattle.limits.specs.Refusals.{answered, refused, some_numbers}
 use Rattle.number_pieces.specs.declared.Pieces.{Pieces}
-use Rattle.number_pieces.specs.declared.Stop.TheVariants.{Going, Refused}
-use Rattle.number_pieces.specs.Feed.{fresh, out, fed, feed_of}
+use Rattle.limits.specs.declared.Refusal.TheVariants.{NoEnd}
+use Rattle.number_pieces.specs.Feed.{fresh, out, fed, stopped, feed_of}
 use Rattle.number_pieces.specs.Said.{said_fed}
 
 -- a state whose array begins with a byte
@@ -28,8 +28,8 @@ unfolding feed_of
 said_cases = (refl, refl, refl, refl, refl, refl, refl, refl)
 
 -- RULES AC9. 300 cut behind its first byte; and behind its second a byte that the lane's end leaves without an end.
-pub fed_cases : (feed_of fresh (0x2C ∷ []) false (sevens 1) ≡ out (fed (state 1 0x2C 1) 0 Going) (sevens 1))
+pub fed_cases : (feed_of fresh (0x2C ∷ []) false (sevens 1) ≡ out (fed (state 1 0x2C 1) 0 None) (sevens 1))
     × (feed_of (state 1 0x2C 1) (0x82 ∷ 0x05 ∷ []) true (sevens 2)
-    ≡ out (fed (state 1 0x2C 1) 1 (Refused 11 3)) (300 ∷ 7 ∷ []))
+    ≡ out (stopped (state 1 0x2C 1) 1 NoEnd 3) (300 ∷ 7 ∷ []))
 unfolding feed_of
 fed_cases = (refl, refl)

@@ -1,8 +1,8 @@
 -- RULES AC8. A lane's bytes fed in pieces, call after call.
-use Rattle.std.specs.Prelude.{ℕ, ◌≤◌, Bool, false, List, [], ◌∷◌, ◌++◌, length, take}
+use Rattle.std.specs.Prelude.{ℕ, ◌≤◌, Bool, false, List, [], ◌∷◌, ◌++◌, length, take, Option, Some, None}
+use Rattle.limits.specs.declared.Refusal.{Refusal}
 use Rattle.number_pieces.specs.declared.Pieces.{Pieces}
 use Rattle.number_pieces.specs.declared.Stop.{Stop}
-use Rattle.number_pieces.specs.declared.Stop.TheVariants.{Going, Refused}
 use Rattle.number_pieces.specs.Feed.{Out, feed_of}
 
 -- RULES AC8. A piece and the output that it is fed with.
@@ -24,10 +24,10 @@ abbrev pub joined : List Piece → List ℕ
 joined [] = []
 joined (p ∷ ps) = p.bytes ++ joined ps
 
--- RULES AC8. Where a caller stands: with the state to go on with; or with a refusal's number and what it told.
+-- RULES AC8. Where a caller stands: with the state to go on with; or with a refusal and what it told.
 pub data Where : Type 0 where
   goes_on : Pieces → Where
-  stopped : ℕ → ℕ → Where
+  stopped : Refusal → ℕ → Where
 
 -- RULES AC8. What a caller has got: the numbers, and where it stands.
 pub record Got : Type 0 where
@@ -39,9 +39,9 @@ abbrev pub got : List ℕ → Where → Got
 got ns w = record { numbers = ns; stands = w }
 
 -- RULES AC8. By the answer.
-abbrev pub where_at : Stop → Pieces → Where
-where_at Going st = goes_on st
-where_at (Refused n told) st = stopped n told
+abbrev pub where_at : Option Stop → Pieces → Where
+where_at None st = goes_on st
+where_at (Some s) st = stopped s.refusal s.told
 
 -- RULES AC8. The numbers are those at the front of the output.
 abbrev pub got_of : Out → Got

@@ -2,12 +2,13 @@
 -- piece, else 8; more than four held bytes, one with the top bit, or a byte count that would pass 4,294,967,295 is
 -- refusal 2." "Numbers before a bad vint are given out .. but the state comes back equal. An empty piece changes
 -- nothing."
-use Rattle.std.specs.Prelude.{ℕ, ◌+◌, ◌-◌, Bool, true, cond, ◌&&◌, List, [], ◌∷◌, ◌++◌, leb, ltb, length, take, replicate}
+use Rattle.std.specs.Prelude.{ℕ, ◌+◌, ◌-◌, Bool, true, cond, ◌&&◌, List, [], ◌∷◌, ◌++◌, leb, ltb, length, take, replicate, Option, Some, None}
 use Rattle.limits.specs.Limits.{held_limit, fed_limit}
+use Rattle.limits.specs.declared.Refusal.{Refusal}
+use Rattle.limits.specs.declared.Refusal.TheVariants.{NotWhole, OutputTooShort}
 use Rattle.spans.specs.Span.{overwrite}
 use Rattle.number_pieces.specs.declared.Pieces.{Pieces}
 use Rattle.number_pieces.specs.declared.Stop.{Stop}
-use Rattle.number_pieces.specs.declared.Stop.TheVariants.{Going, Refused}
 use Rattle.number_pieces.specs.declared.Fed.{Fed}
 use Rattle.number_pieces.specs.Run.{End, waits, stops, Ran, run_of, at_end}
 
@@ -46,9 +47,13 @@ pub record Out : Type 0 where
 abbrev pub out : Fed → List ℕ → Out
 out r o = record { answer = r; output = o }
 
--- RULES AC5. A state, how many numbers are given out, and whether it goes on.
-abbrev pub fed : Pieces → ℕ → Stop → Fed
+-- RULES AC5. A state, how many numbers are given out, and why it doesn't go on.
+abbrev pub fed : Pieces → ℕ → Option Stop → Fed
 fed st n s = record { state = st; numbers = n; stop = s }
+
+-- RULES AC5. The answer of a call that doesn't go on, and what that tells.
+abbrev pub stopped : Pieces → ℕ → Refusal → ℕ → Fed
+stopped st n r told = fed st n (Some (record { refusal = r; told = told }))
 
 -- RULES AC7. The state after a piece behind which some bytes are held: after none it is the one handed in, to the byte.
 abbrev pub after : Pieces → List ℕ → List ℕ → Pieces
@@ -57,8 +62,8 @@ after st (b ∷ bs) held = holding held (st.fed + length (b ∷ bs))
 
 -- RULES AC6. How a piece ends: it goes on, or is refused and the state comes back equal. The numbers are given out.
 abbrev pub on_end : End → Pieces → List ℕ → List ℕ → List ℕ → Out
-on_end (waits held) st piece ns output = out (fed (after st piece held) (length ns) Going) (overwrite 0 ns output)
-on_end (stops n i) st piece ns output = out (fed st (length ns) (Refused n i)) (overwrite 0 ns output)
+on_end (waits held) st piece ns output = out (fed (after st piece held) (length ns) None) (overwrite 0 ns output)
+on_end (stops n i) st piece ns output = out (stopped st (length ns) n i) (overwrite 0 ns output)
 
 -- RULES AC6. What the bytes came to, and whether the lane is at its end.
 abbrev pub on_run : Ran → Pieces → List ℕ → Bool → List ℕ → Out
@@ -71,5 +76,5 @@ feed_of st piece last output =
     cond (takes st (length piece))
     (cond (leb (length piece) (length output))
     (on_run (run_of (held_of st) st.fed piece) st piece last output)
-    (out (fed st 0 (Refused 8 (length piece))) output))
-    (out (fed st 0 (Refused 2 0)) output)
+    (out (stopped st 0 OutputTooShort (length piece)) output))
+    (out (stopped st 0 NotWhole 0) output)

@@ -10,11 +10,12 @@ ghost use Rattle.std.specs.Prelude.{◌≡◌, true, [], ◌∷◌, ◌++◌, �
 ghost use Rattle.limits.specs.Limits.{held_limit, fed_limit};
 ghost use Rattle.limits.specs.Refusals.{feeding_piece, permitted};
 ghost use Rattle.vint.specs.Vint.{read_vint};
-ghost use Rattle.number_pieces.specs.Feed.{no_top, takes, out, feed_of};
+ghost use Rattle.number_pieces.specs.Feed.{no_top, takes, out, stopped, feed_of};
 ghost use Rattle.number_pieces.specs.Said.{said_fed};
 ghost use Rattle.number_pieces.specs.Turn.{turned, begun, turn_of, turns_of, finish_of};
 
-use vint::Unvint;
+use limits::Refusal;
+use vint::Read;
 
 // The number reader's state between two pieces: the bytes of a cut vint, how many they are, and the bytes fed so far.
 #[derive(Clone, Copy)]
@@ -24,116 +25,93 @@ pub struct Pieces {
     pub fed: u32,
 }
 
-// Whether it goes on, or a refusal's number and what it tells: the places that 8 needs, the place of 11 and 12.
-#[derive(Clone, Copy)]
-pub enum Stop {
-    Going,
-    Refused(u32, u64),
+// Why it doesn't go on, and what that tells: the places that 8 needs, the place of 11 and 12.
+#[derive(Clone, Copy, Debug, PartialEq, Eq)]
+pub struct Stop {
+    pub refusal: Refusal,
+    pub told: u64,
 }
 
-// The state, how many numbers stand at the output's front, and whether it goes on.
+// The state, how many numbers stand at the output's front, and why it doesn't go on, if it doesn't.
 #[derive(Clone, Copy)]
 pub struct Fed {
     pub state: Pieces,
     pub numbers: usize,
-    pub stop: Stop,
+    pub stop: Option<Stop>,
 }
 
-// What a call has come to: held bytes, numbers given, bytes taken, and a refusal's number or 0.
+// What a call has come to: held bytes, numbers given, bytes taken, and why the next byte can't be taken, if it can't.
 #[derive(Clone, Copy)]
 struct Run {
     held: [u8; limits::HELD_LIMIT],
     count: usize,
     numbers: usize,
     taken: usize,
-    fault: u32,
+    fault: Option<Refusal>,
 }
 
-// Whether none of the held bytes has the top bit.
-fn is_low(held: [u8; limits::HELD_LIMIT], count: usize) -> bool
-    requires { (length held ≡ held_limit) × (count ≤ held_limit) }
-    ensures { result ≡ no_top (take count held) }
+// Whether none of some bytes has the top bit.
+fn is_low(bytes: &[u8]) -> bool
+    ensures { result ≡ no_top bytes.now }
 {
-    let mut i = 0;
-    while i < count {
-        if 128 <= held[i] {
-            return false;
-        }
-        i += 1;
-    }
-    true
+    bytes.iter().all(|b| *b < 128)
 }
 
 // Whether a piece of n bytes can be taken.
 fn does_take(st: Pieces, n: usize) -> bool
     ensures { result ≡ takes st n }
 {
-    let count = st.count;
-    let held = st.held;
-    if limits::HELD_LIMIT < count {
+    if limits::HELD_LIMIT < st.count {
         return false;
     }
-    if !is_low(held, count) {
+    if !is_low(&st.held[..st.count]) {
         return false;
     }
     n <= ((limits::FED_LIMIT - st.fed) as usize)
 }
 
 // The vint reader's answer to held bytes and one behind them.
-fn read_behind(held: [u8; limits::HELD_LIMIT], count: usize, b: u8) -> Unvint
-    requires { (length held ≡ held_limit) × (count ≤ held_limit) }
+fn read_behind(held: [u8; limits::HELD_LIMIT], count: usize, b: u8) -> Result<Read, Refusal>
+    requires { count ≤ held_limit }
     ensures { result ≡ read_vint (take count held ++ (b ∷ [])) }
 {
-    let mut whole = [0u8; limits::VINT_LIMIT];
-    let mut i = 0;
-    while i < count {
-        whole[i] = held[i];
-        i += 1;
-    }
+    let mut whole = [0; limits::VINT_LIMIT];
+    whole[..limits::HELD_LIMIT].copy_from_slice(&held);
     whole[count] = b;
-    let n = count + 1;
-    vint::read_u32_vint(&whole[0..n])
+    vint::read_u32_vint(&whole[..count + 1])
 }
 
 // One byte more.
 fn turn(s: Run, b: u8, output: &mut [u32]) -> Run
-    requires { (length s.held ≡ held_limit) × ((s.count ≤ held_limit)
-        × ((s.numbers < length output.old) × (s.taken < fed_limit))) }
+    requires { (s.count ≤ held_limit) × ((s.numbers < length output.old) × (s.taken < fed_limit)) }
     ensures { turned result output.new ≡ turn_of s b output.old }
 {
-    let held = s.held;
     let count = s.count;
-    let numbers = s.numbers;
-    let taken = s.taken;
     if (b < 128) & (count < limits::HELD_LIMIT) {
-        let mut more = held;
-        more[count] = b;
+        let mut held = s.held;
+        held[count] = b;
         return Run {
-            held: more,
+            held,
             count: count + 1,
-            numbers,
-            taken: taken + 1,
-            fault: 0,
+            taken: s.taken + 1,
+            fault: None,
+            ..s
         };
     }
-    let read = read_behind(held, count, b);
-    match read {
-        Unvint::Number(n, _) => {
-            output[numbers] = n;
+    match read_behind(s.held, count, b) {
+        Ok(read) => {
+            output[s.numbers] = read.number;
             Run {
-                held,
                 count: 0,
-                numbers: numbers + 1,
-                taken: taken + 1,
-                fault: 0,
+                numbers: s.numbers + 1,
+                taken: s.taken + 1,
+                fault: None,
+                ..s
             }
         }
-        Unvint::Refused(k) => Run {
-            held,
-            count,
-            numbers,
-            taken,
-            fault: k,
+        Err(r) => Run {
+            fault: Some(r),
+            ..s
         },
     }
 }
@@ -146,19 +124,16 @@ fn take_bytes(st: Pieces, piece: &[u8], output: &mut [u32]) -> Run
         ≡ turns_of (begun st) piece.now output.old }
 {
     let held = st.held;
-    let count = st.count;
     let mut s = Run {
         held,
-        count,
+        count: st.count,
         numbers: 0,
         taken: 0,
-        fault: 0,
+        fault: None,
     };
-    while s.taken < piece.len() {
-        let i = s.taken;
-        let b = piece[i];
+    for &b in piece {
         s = turn(s, b, output);
-        if s.fault != 0 {
+        if s.fault.is_some() {
             return s;
         }
     }
@@ -167,54 +142,52 @@ fn take_bytes(st: Pieces, piece: &[u8], output: &mut [u32]) -> Run
 
 // Held bytes with zeros behind them.
 fn cleared(held: [u8; limits::HELD_LIMIT], count: usize) -> [u8; limits::HELD_LIMIT]
-    requires { (length held ≡ held_limit) × (count ≤ held_limit) }
+    requires { count ≤ held_limit }
     ensures { result ≡ take count held ++ replicate (held_limit - count) 0 }
 {
     let mut h = held;
-    let mut i = count;
-    while i < limits::HELD_LIMIT {
-        h[i] = 0;
-        i += 1;
-    }
+    h[count..].fill(0);
     h
 }
 
 // What a call answers whose bytes are all taken, or that has met a fault.
+#[tactic(auto, unfolding(crate::specs::Turn::finish_of))]
 fn finish(st: Pieces, s: Run, last: bool) -> Fed
-    requires { (length s.held ≡ held_limit) × ((s.count ≤ held_limit) × (st.fed + s.taken ≤ fed_limit)) }
+    requires { (s.count ≤ held_limit) × (st.fed + s.taken ≤ fed_limit) }
     ensures { result ≡ finish_of st s last }
 {
-    let held = s.held;
     let count = s.count;
     let numbers = s.numbers;
     let fed = st.fed + (s.taken as u32);
-    if s.fault != 0 {
-        return Fed {
-            state: st,
-            numbers,
-            stop: Stop::Refused(s.fault, fed as u64),
-        };
+    if let Some(refusal) = s.fault {
+        return stopped(st, numbers, refusal, fed as u64);
     }
     if last & (0 < count) {
-        return Fed {
-            state: st,
-            numbers,
-            stop: Stop::Refused(11, fed as u64),
+        return stopped(st, numbers, Refusal::NoEnd, fed as u64);
+    }
+    let mut state = st;
+    if s.taken != 0 {
+        state = Pieces {
+            held: cleared(s.held, count),
+            count,
+            fed,
         };
     }
-    if s.taken == 0 {
-        return Fed {
-            state: st,
-            numbers,
-            stop: Stop::Going,
-        };
-    }
-    let held = cleared(held, count);
-    let state = Pieces { held, count, fed };
     Fed {
         state,
         numbers,
-        stop: Stop::Going,
+        stop: None,
+    }
+}
+
+// What a call answers that stops: the state comes back equal.
+fn stopped(state: Pieces, numbers: usize, refusal: Refusal, told: u64) -> Fed
+    ensures { result ≡ stopped state numbers refusal told }
+{
+    Fed {
+        state,
+        numbers,
+        stop: Some(Stop { refusal, told }),
     }
 }
 
@@ -226,18 +199,10 @@ pub fn feed(st: Pieces, piece: &[u8], last: bool, output: &mut [u32]) -> Fed
 {
     let n = piece.len();
     if !does_take(st, n) {
-        return Fed {
-            state: st,
-            numbers: 0,
-            stop: Stop::Refused(2, 0),
-        };
+        return stopped(st, 0, Refusal::NotWhole, 0);
     }
     if output.len() < n {
-        return Fed {
-            state: st,
-            numbers: 0,
-            stop: Stop::Refused(8, n as u64),
-        };
+        return stopped(st, 0, Refusal::OutputTooShort, n as u64);
     }
     let s = take_bytes(st, piece, output);
     finish(st, s, last)
