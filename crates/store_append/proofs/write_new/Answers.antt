@@ -1,7 +1,6 @@
 -- What each part left, put together. Assumes nothing.
 use Prim.Native.Nat.{◌+◌, ◌/◌, ◌≤◌, ◌<◌}
 use mathlib.Core.Bool.{true}
-use mathlib.Core.Option.{some}
 use mathlib.Core.Path.{◌≡◌, refl, sym, ap, subst, ◌∙◌}
 use native.Mathlib.Omega.{arith}
 use lib.ListN.{length}

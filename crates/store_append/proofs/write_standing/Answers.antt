@@ -1,6 +1,5 @@
 -- What each part left, put together. Assumes nothing.
 use Prim.Native.Nat.{ℕ}
-use mathlib.Core.Option.{some}
 use mathlib.Core.Path.{refl, ap, ◌∙◌}
 use lib.ListN.{length}
 use Rattle.store_append.proofs.Cases.{standing_done}
