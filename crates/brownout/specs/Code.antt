@@ -4,7 +4,6 @@ use Rattle.std.specs.Prelude.{ℕ, zero, suc, ◌+◌, ◌*◌, ◌≤◌, ◌�
 use Rattle.limits.specs.Limits.{arena_limit, record_extra, link_size}
 use Rattle.marks.specs.Bits.{Out as MarksOut, out as marks_out, mark_span}
 use Rattle.memory_arena.specs.declared.Arena.{Arena}
-use Rattle.memory_arena.specs.Calls.{sensible}
 use Rattle.records.specs.Record.{key_length, key_at, good_record, header_of, header_sound}
 use Rattle.expull_header.specs.declared.Header.{Header}
 use Rattle.expull_header.specs.Header.{block_size, block_count, sound_header}
@@ -100,7 +99,6 @@ gone_over st m (suc n) i count marks =
 pub record Markable (m : Lent) (a : Arena) (at : ℕ) (h : Header) (marks : ℕ) : Type 0 where
   pub record-in : at + (key_length m.keys at + record_extra) ≤ length m.keys
   pub key_short : length m.keys ≤ arena_limit
-  pub sense : sensible a (length m.lists) ≡ true
   pub list_short : length m.lists ≤ arena_limit
   pub header : sound_header h 0 ≡ true
   pub blocks : good_blocks a m.lists h.head (block_count h) ≡ true

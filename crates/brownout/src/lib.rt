@@ -23,7 +23,7 @@ ghost use Rattle.brownout.specs.Code.{looked_over, counted_on, gone_over};
 
 use brownout_faults::Checked;
 use expull_header::Header;
-use memory_arena::Arena;
+use expull_walk::Lists;
 use shared_arena_hashmap::Met;
 use store_state::State;
 
@@ -56,17 +56,17 @@ fn find_bucket(st: State, table: &[u32], keys: &[u8], lists: &[u8], name: &[u8])
 }
 
 // Whether a list's tail is where its last block's filled bytes end.
-fn is_tail_good(table: &[u32], keys: &[u8], lists: &[u8], arena: Arena, h: Header) -> bool
-    requires { (sensible arena (length lists.now) ≡ true)
-        × ((sound_header h 0 ≡ true) × (good_blocks arena lists.now h.head (block_count h) ≡ true)) }
-    ensures { result ≡ tail_good (lent table.now keys.now lists.now) h }
+fn is_tail_good(table: &[u32], keys: &[u8], lists: &Lists, h: Header) -> bool
+    requires { (sound_header h 0 ≡ true)
+        × (good_blocks lists.now.arena lists.now.bytes.now h.head (block_count h) ≡ true) }
+    ensures { result ≡ tail_good (lent table.now keys.now lists.now.bytes.now) h }
 {
     if h.number == 2 {
         return true;
     }
     let last = (h.number - 3) as usize;
     // all its blocks are good, so the last one is found
-    let block = expull_walk::find_block(lists, arena, h, last).unwrap().unwrap();
+    let block = lists.find_block(h, last).unwrap().unwrap();
     let end = (block.at as u64) + (block.length as u64);
     (h.tail as u64) == end
 }
@@ -76,11 +76,14 @@ fn judge_list(st: State, table: &[u32], keys: &[u8], lists: &[u8], h: Header) ->
     requires { (sensible st.list_arena (length lists.now) ≡ true) × (sound_header h 0 ≡ true) }
     ensures { result ≡ list_judged st (lent table.now keys.now lists.now) h }
 {
-    let arena = st.list_arena;
-    if !expull_walk::are_good_blocks(lists, arena, h.head, h.number - 2) {
+    let pages = Lists {
+        bytes: lists,
+        arena: st.list_arena,
+    };
+    if !pages.are_good_blocks(h.head, h.number - 2) {
         return 5;
     }
-    if is_tail_good(table, keys, lists, arena, h) {
+    if is_tail_good(table, keys, &pages, h) {
         return 0;
     }
     6
@@ -113,48 +116,31 @@ fn judge(st: State, table: &[u32], keys: &[u8], lists: &[u8], i: usize, at: u32)
 }
 
 // Marks a list's blocks, bytes and link, up to a place that was marked already; whether there was one.
-fn mark_blocks(
-    lists: &[u8],
-    arena: Arena,
-    marks: &mut [u8],
-    base: usize,
-    head: u32,
-    count: u32,
-) -> bool
-    requires { (sensible arena (length lists.now) ≡ true) × ((good_blocks arena lists.now head count ≡ true)
-        × ((count ≤ number_limit) × ((base + length lists.now ≤ 8 * length marks.old)
-        × (base + length lists.now < 2 ^ 64)))) }
+fn mark_blocks(lists: &Lists, marks: &mut [u8], base: usize, head: u32, count: u32) -> bool
+    requires { (good_blocks lists.now.arena lists.now.bytes.now head count ≡ true)
+        × ((count ≤ number_limit) × ((base + length lists.now.bytes.now ≤ 8 * length marks.old)
+        × (base + length lists.now.bytes.now < 2 ^ 64))) }
     ensures { marks_out result marks.new
-        ≡ mark_blocks marks.old base lists.now head count 0 }
+        ≡ mark_blocks marks.old base lists.now.bytes.now head count 0 }
 {
     let mut place = head;
-    let mut k = 0;
-    while k < count {
+    for k in 0..count {
         let size = expull_header::get_block_size(k + 3) as usize;
         let at = place as usize;
         let met = marks::mark_span(marks, base + at, size + 4);
         if met {
             return true;
         }
-        place = spans::get_u32(lists, at + size);
-        k += 1;
+        place = spans::get_u32(lists.bytes, at + size);
     }
     false
 }
 
 // Marks a record and its list's blocks: 7 where a place was marked already.
-fn mark_lane(
-    table: &[u32],
-    keys: &[u8],
-    lists: &[u8],
-    arena: Arena,
-    marks: &mut [u8],
-    at: u32,
-    h: Header,
-) -> u32
-    requires { Markable (lent table.now keys.now lists.now) arena at h (length marks.old) }
+fn mark_lane(table: &[u32], keys: &[u8], lists: &Lists, marks: &mut [u8], at: u32, h: Header) -> u32
+    requires { Markable (lent table.now keys.now lists.now.bytes.now) lists.now.arena at h (length marks.old) }
     ensures { step result marks.new
-        ≡ lane_marked (lent table.now keys.now lists.now) at h marks.old }
+        ≡ lane_marked (lent table.now keys.now lists.now.bytes.now) at h marks.old }
 {
     let n = records::key_length(keys, at);
     let from = at as usize;
@@ -163,7 +149,7 @@ fn mark_lane(
         return 7;
     }
     let base = keys.len();
-    let again = mark_blocks(lists, arena, marks, base, h.head, h.number - 2);
+    let again = mark_blocks(lists, marks, base, h.head, h.number - 2);
     if again {
         return 7;
     }
@@ -177,7 +163,6 @@ fn look_over(st: State, table: &[u32], keys: &[u8], lists: &[u8], marks: &mut [u
     ensures { step result marks.new
         ≡ looked_over st (lent table.now keys.now lists.now) i marks.old }
 {
-    let arena = st.list_arena;
     let first = store_state::first_bucket(st);
     let w = 2 * (first + i);
     let at = table[w];
@@ -191,7 +176,11 @@ fn look_over(st: State, table: &[u32], keys: &[u8], lists: &[u8], marks: &mut [u
     let Some(h) = records::get_head(keys, at) else {
         return 4;
     };
-    mark_lane(table, keys, lists, arena, marks, at, h)
+    let pages = Lists {
+        bytes: lists,
+        arena: st.list_arena,
+    };
+    mark_lane(table, keys, &pages, marks, at, h)
 }
 
 // One more where bucket i holds a record.

@@ -1,6 +1,6 @@
 -- A piece, case by case, as its code goes. Assumes nothing.
 use Prim.Native.Nat.{ℕ, suc, ◌+◌, ◌-◌, ◌≤◌, ◌<◌}
-use mathlib.Core.Path.{◌≡◌, refl, sym, ap, ◌∙◌, subst}
+use mathlib.Core.Path.{◌≡◌, refl, sym, ap, ◌∙◌}
 use mathlib.Core.Bool.{Bool, true, false, cond}
 use mathlib.Core.List.{List, [], ◌∷◌}
 use native.Mathlib.Omega.{arith}
@@ -14,6 +14,7 @@ use Rattle.numbers.proofs.Tests.{not_both}
 use Rattle.spans.specs.Span.{read_span, overwrite}
 use Rattle.spans.proofs.Laws.{span_none, overwrite_none}
 use Rattle.memory_arena.specs.declared.Arena.{Arena}
+use Rattle.memory_arena.specs.Calls.{sensible}
 use Rattle.expull_header.specs.declared.Header.{Header}
 use Rattle.std.specs.Prelude.{Option, Some, None}
 use Rattle.std.specs.Option.{is_some}
@@ -39,7 +40,7 @@ use Rattle.lane_pieces.proofs.Loops.{good_lie}
 
 -- ---- from a block on
 
-module _ {a : Arena} {m : List ℕ} {first given n room : ℕ} (k : Going a m first given n room) where
+module _ {first given n room : ℕ} (k : Going first given n room) where
   -- how many blocks are met, as code counts them
   pub going-met : {e : ℕ} → e ≡ block_holding (given + n - 1) → e + 1 ≡ blocks_met given n
   going-met q = omega (arith, q, met_some given n k.some_bytes)
@@ -53,9 +54,10 @@ module _ {a : Arena} {m : List ℕ} {first given n room : ℕ} (k : Going a m fi
       let c : blocks_met given n ≡ suc (block_holding g) = met_some given n s in
       (omega (arith, holding_most g 139998 h), omega (arith, holding_least g first (omega (arith, k.after))))
 
-  pub going-copyable : {end place skip : ℕ} → end ≡ blocks_met given n → skip ≡ given - full_bytes first
+  pub going-copyable : (a : Arena) (m : List ℕ) {end place skip : ℕ} → sensible a (length m) ≡ true
+      → end ≡ blocks_met given n → skip ≡ given - full_bytes first
       → good_on a m first place (end - first) ≡ true → Copyable m first end place skip n room
-  going-copyable {end} {place} {skip} e f g =
+  going-copyable a m {end} {place} {skip} sense e f g =
       let b = going-few e in
       let z : first + (end - first) ≡ end = omega arith in
       let s = k.some_bytes in
@@ -63,7 +65,7 @@ module _ {a : Arena} {m : List ℕ} {first given n room : ℕ} (k : Going a m fi
       record {
         few = b.0;
         from = omega arith;
-        lie = good_lie a m first place (end - first) k.sense g;
+        lie = good_lie a m first place (end - first) sense g;
         within = omega (arith, k.before, full-more first);
         held =
             omega (
@@ -134,7 +136,7 @@ module _ (a : Arena) (m : List ℕ) (first place given n : ℕ) (output : List �
 
 -- ---- from a lane's head
 
-module _ {a : Arena} {m : List ℕ} {h : Header} {given n room : ℕ} (k : Within a m h given n room) where
+module _ {h : Header} {given n room : ℕ} (k : Within h given n room) where
   -- the block in which the bytes begin is the lane's, and among those that are met
   within_first : (block_holding given < block_count h) × (suc (block_holding given) ≤ blocks_met given n)
   within_first =
@@ -155,12 +157,11 @@ module _ {a : Arena} {m : List ℕ} {h : Header} {given n room : ℕ} (k : Withi
   pub within_few : {first : ℕ} → first ≡ block_holding given → first < number_limit
   within_few e = omega (arith, e, within_first.0, (sound_facts h 0 k.sound).to)
 
-  pub within-going : {first : ℕ} → first ≡ block_holding given → Going a m first given n room
+  pub within-going : {first : ℕ} → first ≡ block_holding given → Going first given n room
   within-going e =
       let b : full_bytes (block_holding given) ≤ given = (holding given).below in
       let c : given < full_bytes (suc (block_holding given)) = (holding given).above in
       record {
-        sense = k.sense;
         after = rw e b;
         before = rw e (omega arith);
         some_bytes = k.some_bytes;
@@ -168,66 +169,67 @@ module _ {a : Arena} {m : List ℕ} {h : Header} {given n room : ℕ} (k : Withi
         space = k.space;
       }
 
-  put_false : {output output' : List ℕ} → good_blocks a m h.head (blocks_met given n) ≡ false → output' ≡ output
-      → Put a m h given n output false output'
-  put_false g e = record { told = sym g; left = rw g e }
+  module _ (a : Arena) (m : List ℕ) (sense : sensible a (length m) ≡ true) where
+    put_false : {output output' : List ℕ} → good_blocks a m h.head (blocks_met given n) ≡ false → output' ≡ output
+        → Put a m h given n output false output'
+    put_false g e = record { told = sym g; left = rw g e }
 
-  -- the block in which they begin is bad, or one before it
-  pub put_bad : {first : ℕ} {output : List ℕ} → first ≡ block_holding given → place_of a m h.head first ≡ None
-      → Put a m h given n output false output
-  put_bad {first} e f =
-      let g : good_blocks a m h.head (suc (block_holding given)) ≡ false = rw e at (place_bad a m h.head first f) in
-      put_false (worse g (good_blocks a m h.head (blocks_met given n)) refl) refl
-    where
-      worse : good_blocks a m h.head (suc (block_holding given)) ≡ false
-          → (t : Bool) → good_blocks a m h.head (blocks_met given n) ≡ t
-          → good_blocks a m h.head (blocks_met given n) ≡ false
-      worse g true q =
-          not_both _
-          (blocks_fewer a m h.head (suc (block_holding given)) (blocks_met given n) within_first.1 q) g
-      worse g false q = q
+    -- the block in which they begin is bad, or one before it
+    pub put_bad : {first : ℕ} {output : List ℕ} → first ≡ block_holding given → place_of a m h.head first ≡ None
+        → Put a m h given n output false output
+    put_bad {first} e f =
+        let g : good_blocks a m h.head (suc (block_holding given)) ≡ false = rw e at (place_bad a m h.head first f) in
+        put_false (worse g (good_blocks a m h.head (blocks_met given n)) refl) refl
+      where
+        worse : good_blocks a m h.head (suc (block_holding given)) ≡ false
+            → (t : Bool) → good_blocks a m h.head (blocks_met given n) ≡ t
+            → good_blocks a m h.head (blocks_met given n) ≡ false
+        worse g true q =
+            not_both _
+            (blocks_fewer a m h.head (suc (block_holding given)) (blocks_met given n) within_first.1 q) g
+        worse g false q = q
 
-  -- it has a place: then the blocks from there on decide
-  module _ {first place : ℕ} (e : first ≡ block_holding given) (f : place_of a m h.head first ≡ Some place) where
-    put-found : (good_blocks a m h.head (suc first) ≡ true) × (place ≡ block_place m h.head first)
-    put-found = place_good a m h.head first place f
+    -- it has a place: then the blocks from there on decide
+    module _ {first place : ℕ} (e : first ≡ block_holding given) (f : place_of a m h.head first ≡ Some place) where
+      put-found : (good_blocks a m h.head (suc first) ≡ true) × (place ≡ block_place m h.head first)
+      put-found = place_good a m h.head first place f
 
-    put-parts : first + (blocks_met given n - first) ≡ blocks_met given n
-    put-parts = omega (arith, e, within_first.1)
+      put-parts : first + (blocks_met given n - first) ≡ blocks_met given n
+      put-parts = omega (arith, e, within_first.1)
 
-    put_decides : good_blocks a m h.head (blocks_met given n) ≡ good_on a m first place (blocks_met given n - first)
-    put_decides =
-        let g = blocks_fewer a m h.head first (suc first) (omega arith) put-found.0 in
-        ap (good_blocks a m h.head) (sym put-parts)
-        ∙ good-on a m h.head first (blocks_met given n - first)
-        ∙ rw (g, put-found.1)
+      put_decides : good_blocks a m h.head (blocks_met given n) ≡ good_on a m first place (blocks_met given n - first)
+      put_decides =
+          let g = blocks_fewer a m h.head first (suc first) (omega arith) put-found.0 in
+          ap (good_blocks a m h.head) (sym put-parts)
+          ∙ good-on a m h.head first (blocks_met given n - first)
+          ∙ rw (g, put-found.1)
 
-    put-stopped : {output output' : List ℕ} {w : Option ℕ} → went w output' ≡ gone_on a m first place given n output
-        → w ≡ None → Put a m h given n output false output'
-    put-stopped {output} {output'} {w} g s =
-        let p = (gone-said a m first place given n output g).stopped s in
-        put_false (put_decides ∙ p.0) p.1
+      put-stopped : {output output' : List ℕ} {w : Option ℕ} → went w output' ≡ gone_on a m first place given n output
+          → w ≡ None → Put a m h given n output false output'
+      put-stopped {output} {output'} {w} g s =
+          let p = (gone-said a m first place given n output g).stopped s in
+          put_false (put_decides ∙ p.0) p.1
 
-    put_done : {output output' : List ℕ} {w : Option ℕ} (last : ℕ)
-        → went w output' ≡ gone_on a m first place given n output → w ≡ Some last → Put a m h given n output true output'
-    put_done {output} {output'} {w} last g s =
-        let p = (gone-said a m first place given n output g).come last s in
-        let good : good_blocks a m h.head (blocks_met given n) ≡ true = put_decides ∙ p.0 in
-        let M = met h given n k.sound k.some_bytes k.in_lane in
-        let c : full_bytes first ≤ given = rw e (holding given).below in
-        let z : full_bytes first + (given - full_bytes first) ≡ given = omega arith in
-        let l = lane-on a m h first (blocks_met given n - first) (given - full_bytes first) n k.sense k.sound
-        (omega (arith, put-parts, M.most)) (ap (good_blocks a m h.head) put-parts ∙ good)
-        (omega (arith, M.held, ap full_bytes put-parts)) (omega (arith, k.in_lane)) in
-        record {
-          told = sym good;
-          left = rw good (p.1.1 ∙ rw put-found.1 (ap (λ (x : List ℕ). overwrite 0 x output) (sym (rw z at l))));
-        }
+      put_done : {output output' : List ℕ} {w : Option ℕ} (last : ℕ)
+          → went w output' ≡ gone_on a m first place given n output → w ≡ Some last → Put a m h given n output true output'
+      put_done {output} {output'} {w} last g s =
+          let p = (gone-said a m first place given n output g).come last s in
+          let good : good_blocks a m h.head (blocks_met given n) ≡ true = put_decides ∙ p.0 in
+          let M = met h given n k.sound k.some_bytes k.in_lane in
+          let c : full_bytes first ≤ given = rw e (holding given).below in
+          let z : full_bytes first + (given - full_bytes first) ≡ given = omega arith in
+          let l = lane-on a m h first (blocks_met given n - first) (given - full_bytes first) n sense k.sound
+          (omega (arith, put-parts, M.most)) (ap (good_blocks a m h.head) put-parts ∙ good)
+          (omega (arith, M.held, ap full_bytes put-parts)) (omega (arith, k.in_lane)) in
+          record {
+            told = sym good;
+            left = rw good (p.1.1 ∙ rw put-found.1 (ap (λ (x : List ℕ). overwrite 0 x output) (sym (rw z at l))));
+          }
 
-    pub put-on : {output output' : List ℕ} (w : Option ℕ) → went w output' ≡ gone_on a m first place given n output
-        → Put a m h given n output (is_some w) output'
-    put-on None g = put-stopped g refl
-    put-on (Some last) g = put_done last g refl
+      pub put-on : {output output' : List ℕ} (w : Option ℕ) → went w output' ≡ gone_on a m first place given n output
+          → Put a m h given n output (is_some w) output'
+      put-on None g = put-stopped g refl
+      put-on (Some last) g = put_done last g refl
 
 -- ---- the answers of a standing lane
 

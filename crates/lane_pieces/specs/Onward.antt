@@ -6,7 +6,6 @@ use Rattle.numbers.specs.LittleEndian.{le_number}
 use Rattle.spans.specs.Span.{read_span, overwrite}
 use Rattle.memory_arena.specs.declared.Arena.{Arena}
 use Rattle.memory_arena.specs.Pages.{good_span}
-use Rattle.memory_arena.specs.Calls.{sensible}
 use Rattle.std.specs.Prelude.{Option, Some, None}
 use Rattle.expull_header.specs.declared.Header.{Header}
 use Rattle.expull_header.specs.Header.{block_size, full_bytes, sound_header, lane_length}
@@ -79,8 +78,7 @@ gone_on a m first place given n output =
     (went None output)
 
 -- RULES AD6. What is asked of it: block `first` is the one behind whose bytes those given end.
-pub record Going (a : Arena) (m : List ℕ) (first given n room : ℕ) : Type 0 where
-  pub sense : sensible a (length m) ≡ true
+pub record Going (first given n room : ℕ) : Type 0 where
   pub after : full_bytes first ≤ given
   pub before : given ≤ full_bytes (suc first)
   pub some_bytes : 0 < n
@@ -90,8 +88,7 @@ pub record Going (a : Arena) (m : List ℕ) (first given n room : ℕ) : Type 0 
 -- ---- and from a lane's head on
 
 -- RULES AD6. What is asked: n bytes of the lane behind those given, and room for them.
-pub record Within (a : Arena) (m : List ℕ) (h : Header) (given n room : ℕ) : Type 0 where
-  pub sense : sensible a (length m) ≡ true
+pub record Within (h : Header) (given n room : ℕ) : Type 0 where
   pub sound : sound_header h 0 ≡ true
   pub some_bytes : 0 < n
   pub in_lane : given + n ≤ lane_length h

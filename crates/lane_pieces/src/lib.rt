@@ -12,7 +12,6 @@ ghost use Rattle.std.specs.Prelude.{◌≡◌, true, ◌+◌, ◌-◌, ◌≤◌
 ghost use Rattle.limits.specs.Limits.{number_limit};
 ghost use Rattle.limits.specs.Refusals.{reading_piece, permitted};
 ghost use Rattle.spans.specs.Span.{read_span, overwrite};
-ghost use Rattle.memory_arena.specs.Calls.{sensible};
 ghost use Rattle.records.specs.Record.{value_place};
 ghost use Rattle.expull_header.specs.Header.{full_bytes};
 ghost use Rattle.store_look.specs.Look.{lent, looked_of};
@@ -21,7 +20,7 @@ ghost use Rattle.lane_pieces.specs.Onward.{good_on, bytes_on, last_on, Copyable,
 ghost use Rattle.lane_pieces.specs.Said.{said_pieced};
 
 use expull_header::Header;
-use memory_arena::Arena;
+use expull_walk::Lists;
 use store_look::Lookup;
 use store_state::State;
 
@@ -74,17 +73,17 @@ pub fn block_holding(g: u64) -> u32
 // ---- blocks on from one of them
 
 // Whether the blocks from `first` on, which lies at a place, and before `end` are good spans with their links.
-fn are_good_on(lists: &[u8], arena: Arena, first: u32, end: u32, place: u32) -> bool
-    requires { (sensible arena (length lists.now) ≡ true) × (end ≤ number_limit) }
-    ensures { result ≡ good_on arena lists.now first place (end - first) }
+fn are_good_on(lists: &Lists, first: u32, end: u32, place: u32) -> bool
+    requires { end ≤ number_limit }
+    ensures { result ≡ good_on lists.now.arena lists.now.bytes.now first place (end - first) }
 {
     let mut b = place;
     for i in first..end {
         let size = expull_header::get_block_size(i + 3) as usize;
-        if !arena.is_good_span(b, size + limits::LINK) {
+        if !lists.arena.is_good_span(b, size + limits::LINK) {
             return false;
         }
-        b = spans::get_u32(lists, b as usize + size);
+        b = spans::get_u32(lists.bytes, b as usize + size);
     }
     true
 }
@@ -128,56 +127,47 @@ fn copy_on(
 // blocks up to the last of these bytes are met, then the bytes copied. Answers where that last block lies; none where one
 // on the way isn't a good span.
 pub fn go_on(
-    lists: &[u8],
-    arena: Arena,
+    lists: &Lists,
     first: u32,
     place: u32,
     given: u64,
     n: usize,
     output: &mut [u8],
 ) -> Option<u32>
-    requires { Going arena lists.now first given n (length output.old) }
+    requires { Going first given n (length output.old) }
     ensures { went result output.new
-        ≡ gone_on arena lists.now first place given n output.old }
+        ≡ gone_on lists.now.arena lists.now.bytes.now first place given n output.old }
 {
     let last = given + n as u64 - 1;
     let end = block_holding(last) + 1;
-    if !are_good_on(lists, arena, first, end, place) {
+    if !are_good_on(lists, first, end, place) {
         return None;
     }
     let before = full_bytes(first);
     let skip = (given - before) as usize;
-    Some(copy_on(lists, first, end, place, skip, n, output))
+    Some(copy_on(lists.bytes, first, end, place, skip, n, output))
 }
 
 // ---- a piece
 
 // From the lane's head: the block in which the bytes begin is found, and from there it goes on. Whether all blocks on
 // the way were good spans.
-fn put_piece(lists: &[u8], arena: Arena, h: Header, given: u64, n: usize, output: &mut [u8]) -> bool
-    requires { Within arena lists.now h given n (length output.old) }
-    ensures { Put arena lists.now h given n output.old result output.new }
+fn put_piece(lists: &Lists, h: Header, given: u64, n: usize, output: &mut [u8]) -> bool
+    requires { Within h given n (length output.old) }
+    ensures { Put lists.now.arena lists.now.bytes.now h given n output.old result output.new }
 {
     let first = block_holding(given);
-    let Some(place) = expull_walk::find_place(lists, arena, h.head, first) else {
+    let Some(place) = lists.find_place(h.head, first) else {
         return false;
     };
-    go_on(lists, arena, first, place, given, n, output).is_some()
+    go_on(lists, first, place, given, n, output).is_some()
 }
 
 // A piece of a standing lane, whose record is at a place.
-fn piece_at(
-    arena: Arena,
-    keys: &[u8],
-    lists: &[u8],
-    at: u32,
-    given: u64,
-    output: &mut [u8],
-) -> Pieced
-    requires { (sensible arena (length lists.now) ≡ true)
-        × ((at + 2 ≤ length keys.now) × (value_place keys.now at + 16 ≤ length keys.now)) }
+fn piece_at(lists: &Lists, keys: &[u8], at: u32, given: u64, output: &mut [u8]) -> Pieced
+    requires { (at + 2 ≤ length keys.now) × (value_place keys.now at + 16 ≤ length keys.now) }
     ensures { out result output.new
-        ≡ piece_at arena keys.now lists.now given at output.old }
+        ≡ piece_at lists.now.arena keys.now lists.now.bytes.now given at output.old }
 {
     let Some(h) = records::get_head(keys, at) else {
         return Pieced::Refused(4, 0);
@@ -195,7 +185,7 @@ fn piece_at(
     if n == 0 {
         return Pieced::Given(0);
     }
-    if !put_piece(lists, arena, h, given, n as usize, output) {
+    if !put_piece(lists, h, given, n as usize, output) {
         return Pieced::Refused(4, 0);
     }
     Pieced::Given(n)
@@ -229,7 +219,6 @@ pub fn piece(
     ensures walked { result.walk
         ≡ looked_of st (lent table.now keys.now lists.now) name.now }
 {
-    let arena = st.list_arena;
     let looked = store_look::lane::lookup(st, table, keys, lists, name);
     let walk = looked.walk;
     let found = looked.answer;
@@ -239,8 +228,12 @@ pub fn piece(
             walk,
         };
     };
+    let pages = Lists {
+        bytes: lists,
+        arena: st.list_arena,
+    };
     ToldPiece {
-        answer: piece_at(arena, keys, lists, at, given, output),
+        answer: piece_at(&pages, keys, at, given, output),
         walk,
     }
 }

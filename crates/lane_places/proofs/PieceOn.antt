@@ -15,7 +15,6 @@ use Rattle.numbers.proofs.Tests.{both, left_false, right_false}
 use Rattle.spans.specs.Span.{overwrite}
 use Rattle.spans.proofs.Laws.{span_none, overwrite_none}
 use Rattle.memory_arena.specs.declared.Arena.{Arena}
-use Rattle.memory_arena.specs.Calls.{sensible}
 use Rattle.expull_header.specs.declared.Header.{Header}
 use Rattle.std.specs.Prelude.{Option, Some, None}
 use Rattle.expull_header.specs.Header.{sound_header, full_bytes, lane_length}
@@ -148,13 +147,11 @@ module _ (a : Arena) (keys lists : List ℕ) (p : Place) (at : ℕ) (output : Li
           ∙ ap (λ (o : List ℕ). out (Given 0) p o) (rw (span_none, overwrite_none))
 
 -- what code needs of the numbers
-pub fits-going : {a : Arena} {lists : List ℕ} (h : Header) (p : Place) {n room : ℕ} → sensible a (length lists) ≡ true
-    → sound_header h 0 ≡ true → fits_length p (lane_length h) ≡ true → 0 < n → n ≡ piece_length h p.given room
-    → Going a lists p.index p.given n room
-fits-going h p s t e z f =
+pub fits-going : (h : Header) (p : Place) {n room : ℕ} → sound_header h 0 ≡ true → fits_length p (lane_length h) ≡ true
+    → 0 < n → n ≡ piece_length h p.given room → Going p.index p.given n room
+fits-going h p t e z f =
     let k = fits_facts p (lane_length h) e in
     record {
-      sense = s;
       after = k.after;
       before = k.before;
       some_bytes = z;

@@ -8,7 +8,6 @@
 
 ghost use Rattle.std.specs.Prelude.{◌≡◌, true, ◌+◌, ◌≤◌, length};
 ghost use Rattle.limits.specs.Refusals.{reading_piece, permitted};
-ghost use Rattle.memory_arena.specs.Calls.{sensible};
 ghost use Rattle.records.specs.Record.{value_place};
 ghost use Rattle.store_look.specs.Look.{lent, looked_of};
 ghost use Rattle.lane_pieces.specs.Said.{said_pieced};
@@ -17,8 +16,8 @@ ghost use Rattle.lane_places.specs.PieceOn.{beginning, fits_length, block_at, ou
 ghost use Rattle.lane_places.specs.PieceOn.{piece_on_of};
 
 use expull_header::Header;
+use expull_walk::Lists;
 use lane_pieces::Pieced;
-use memory_arena::Arena;
 use store_look::Lookup;
 use store_state::State;
 
@@ -90,13 +89,14 @@ fn stays(answer: Pieced, p: Place) -> Onward
 }
 
 // N bytes from a place on.
-fn go_from(lists: &[u8], arena: Arena, h: Header, p: Place, n: usize, output: &mut [u8]) -> Onward
-    requires { Going arena lists.now p.index p.given n (length output.old) }
-    ensures { out_of result output.new ≡ gone_from arena lists.now h p n output.old }
+fn go_from(lists: &Lists, h: Header, p: Place, n: usize, output: &mut [u8]) -> Onward
+    requires { Going p.index p.given n (length output.old) }
+    ensures { out_of result output.new
+        ≡ gone_from lists.now.arena lists.now.bytes.now h p n output.old }
 {
     let first = p.index;
     let place = block_at(h, p);
-    let Some(last) = lane_pieces::go_on(lists, arena, first, place, p.given, n, output) else {
+    let Some(last) = lane_pieces::go_on(lists, first, place, p.given, n, output) else {
         return stays(Pieced::Refused(4, 0), p);
     };
     let given = p.given + n as u64;
@@ -110,18 +110,10 @@ fn go_from(lists: &[u8], arena: Arena, h: Header, p: Place, n: usize, output: &m
 }
 
 // A piece of a standing lane, whose record is at a place of the key pages, from a place on.
-fn piece_on_at(
-    arena: Arena,
-    keys: &[u8],
-    lists: &[u8],
-    at: u32,
-    p: Place,
-    output: &mut [u8],
-) -> Onward
-    requires { (sensible arena (length lists.now) ≡ true)
-        × ((at + 2 ≤ length keys.now) × (value_place keys.now at + 16 ≤ length keys.now)) }
+fn piece_on_at(lists: &Lists, keys: &[u8], at: u32, p: Place, output: &mut [u8]) -> Onward
+    requires { (at + 2 ≤ length keys.now) × (value_place keys.now at + 16 ≤ length keys.now) }
     ensures { out_of result output.new
-        ≡ piece_on_at arena keys.now lists.now p at output.old }
+        ≡ piece_on_at lists.now.arena keys.now lists.now.bytes.now p at output.old }
 {
     let Some(h) = records::get_head(keys, at) else {
         return stays(Pieced::Refused(4, 0), p);
@@ -138,7 +130,7 @@ fn piece_on_at(
     if n == 0 {
         return stays(Pieced::Given(0), p);
     }
-    go_from(lists, arena, h, p, n as usize, output)
+    go_from(lists, h, p, n as usize, output)
 }
 
 // A lane's bytes from a place on, as many as the output holds or as are left, to its front; and where to go on from
@@ -159,7 +151,6 @@ pub fn piece_on(
     ensures walked { result.walk
         ≡ looked_of st (lent table.now keys.now lists.now) name.now }
 {
-    let arena = st.list_arena;
     let looked = store_look::lane::lookup(st, table, keys, lists, name);
     let walk = looked.walk;
     let found = looked.answer;
@@ -169,8 +160,12 @@ pub fn piece_on(
             walk,
         };
     };
+    let pages = Lists {
+        bytes: lists,
+        arena: st.list_arena,
+    };
     ToldOnward {
-        onward: piece_on_at(arena, keys, lists, at, p, output),
+        onward: piece_on_at(&pages, keys, at, p, output),
         walk,
     }
 }

@@ -34,6 +34,11 @@ pub record Walkable (a : Arena) (m : List ℕ) (h : Header) : Type 0 where
   pub blocks : good_blocks a m h.head (block_count h) ≡ true
   pub some_blocks : h.number ≡ fresh_number → ⊥
 
+pub walkable : {a : Arena} {m : List ℕ} {h : Header} → sensible a (length m) ≡ true
+    → (sound_header h 0 ≡ true) × (good_blocks a m h.head (block_count h) ≡ true) → (h.number ≡ fresh_number → ⊥)
+    → Walkable a m h
+walkable s k n = record { sense = s; sound = k.0; blocks = k.1; some_blocks = n }
+
 -- the first i blocks are taken
 pub record Walking (m : List ℕ) (h : Header) (o₀ : List ℤ) (s : Run) (o : List ℤ) (place i : ℕ) : Type 0 where
   pub at_most : i ≤ last_of h

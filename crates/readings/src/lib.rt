@@ -23,7 +23,7 @@ ghost use Rattle.readings.specs.Readings.{out, not_found, readings_at, readings_
 ghost use Rattle.readings.specs.Said.{said_recalled};
 
 use expull_header::Header;
-use memory_arena::Arena;
+use expull_walk::Lists;
 use reading_run::Run;
 use store_append::ToldAppend;
 use store_look::Lookup;
@@ -47,11 +47,11 @@ pub struct ToldReadings {
 // ---- reading back
 
 // All bytes of a list, block by block.
-fn take_lane(lists: &[u8], arena: Arena, h: Header, output: &mut [i32]) -> Run
-    requires { (sensible arena (length lists.now) ≡ true)
-        × ((sound_header h 0 ≡ true) × (good_blocks arena lists.now h.head (block_count h) ≡ true)) }
+fn take_lane(lists: &Lists, h: Header, output: &mut [i32]) -> Run
+    requires { (sound_header h 0 ≡ true)
+        × (good_blocks lists.now.arena lists.now.bytes.now h.head (block_count h) ≡ true) }
     ensures { run_out result output.new
-        ≡ run_of begun (lane_bytes lists.now h) output.old }
+        ≡ run_of begun (lane_bytes lists.now.bytes.now h) output.old }
 {
     let mut s = reading_run::begin();
     if h.number == limits::FIRST_BLOCK_NUM {
@@ -59,30 +59,28 @@ fn take_lane(lists: &[u8], arena: Arena, h: Header, output: &mut [i32]) -> Run
     }
     let last = h.number - 3;
     let mut place = h.head;
-    let mut i = 0;
-    while i < last {
+    for i in 0..last {
         let size = expull_header::get_block_size(i + 3) as usize;
         let from = place as usize;
         let to = from + size;
-        s = reading_run::take_bytes(s, &lists[from..to], output);
-        place = spans::get_u32(lists, to);
-        i += 1;
+        s = reading_run::take_bytes(s, &lists.bytes[from..to], output);
+        place = spans::get_u32(lists.bytes, to);
     }
     let size = expull_header::get_block_size(h.number);
     let from = place as usize;
     let to = from + (size - h.remaining) as usize;
-    reading_run::take_bytes(s, &lists[from..to], output)
+    reading_run::take_bytes(s, &lists.bytes[from..to], output)
 }
 
 // The first pass: whole readings are counted, and none goes to the caller's output.
-fn count_lane(lists: &[u8], arena: Arena, h: Header) -> Run
-    requires { (sensible arena (length lists.now) ≡ true)
-        × ((sound_header h 0 ≡ true) × (good_blocks arena lists.now h.head (block_count h) ≡ true)) }
-    ensures { (result.readings ≡ length (vints_of (lane_bytes lists.now h)).numbers)
-        × (end_of result ≡ (vints_of (lane_bytes lists.now h)).refusal) }
+fn count_lane(lists: &Lists, h: Header) -> Run
+    requires { (sound_header h 0 ≡ true)
+        × (good_blocks lists.now.arena lists.now.bytes.now h.head (block_count h) ≡ true) }
+    ensures { (result.readings ≡ length (vints_of (lane_bytes lists.now.bytes.now h)).numbers)
+        × (end_of result ≡ (vints_of (lane_bytes lists.now.bytes.now h)).refusal) }
 {
     let mut none = [0i32; 1];
-    take_lane(lists, arena, h, &mut none)
+    take_lane(lists, h, &mut none)
 }
 
 // A standing lane's readings, through its record. All blocks are met and all readings counted before the output's
@@ -101,14 +99,17 @@ fn readings_at(
         ≡ readings_at st (lent table.now keys.now lists.now) at
         output.old }
 {
-    let arena = st.list_arena;
+    let pages = Lists {
+        bytes: lists,
+        arena: st.list_arena,
+    };
     let Some(h) = records::get_head(keys, at) else {
         return Recalled::Refused(4, 0);
     };
-    if !expull_walk::are_good_blocks(lists, arena, h.head, h.number - 2) {
+    if !pages.are_good_blocks(h.head, h.number - 2) {
         return Recalled::Refused(4, 0);
     }
-    let counted = count_lane(lists, arena, h);
+    let counted = count_lane(&pages, h);
     let n = counted.readings;
     if output.len() < n {
         return Recalled::Refused(8, n as u64);
@@ -117,7 +118,7 @@ fn readings_at(
     if fault != 0 {
         return Recalled::Refused(fault, n as u64);
     }
-    take_lane(lists, arena, h, output);
+    take_lane(&pages, h, output);
     Recalled::Readings(n as u64)
 }
 

@@ -9,7 +9,7 @@ ghost use Rattle.store_look.specs.Look.{lent, checked, on_met, lookup_of, looked
 ghost use Rattle.store_look.specs.Look.{reading, read_at, read_of, on_block, block_at, find_block_of, show_of};
 
 use crate::{Answer, Lookup, Outcome, ToldAnswer, ToldLookup};
-use expull_walk::Block;
+use expull_walk::{Block, Lists};
 use limits::Refusal;
 use shared_arena_hashmap::Met;
 use store_state::{Name, State};
@@ -158,18 +158,21 @@ pub fn read_at(
     ensures { reading result output.new
         ≡ read_at st (lent table.now keys.now lists.now) at output.old }
 {
-    let arena = st.list_arena;
     let Some(h) = records::get_head(keys, at) else {
         return Answer::Refused(4, 0);
     };
-    if !expull_walk::are_good_blocks(lists, arena, h.head, h.number - 2) {
+    let pages = Lists {
+        bytes: lists,
+        arena: st.list_arena,
+    };
+    if !pages.are_good_blocks(h.head, h.number - 2) {
         return Answer::Refused(4, 0);
     }
     let n = expull_header::lane_length(h);
     if (output.len() as u64) < n {
         return Answer::Refused(8, n);
     }
-    expull_walk::read_to_end(lists, arena, h, output);
+    pages.read_to_end(h, output);
     Answer::Found(Outcome::Reading(n))
 }
 
@@ -219,11 +222,14 @@ fn block_at(st: State, table: &[u32], keys: &[u8], lists: &[u8], at: u32, index:
         × ((at + 2 ≤ length keys.now) × (value_place keys.now at + 16 ≤ length keys.now)) }
     ensures { result ≡ block_at st (lent table.now keys.now lists.now) index at }
 {
-    let arena = st.list_arena;
     let Some(h) = records::get_head(keys, at) else {
         return Answer::Refused(4, 0);
     };
-    on_block(expull_walk::find_block(lists, arena, h, index))
+    let pages = Lists {
+        bytes: lists,
+        arena: st.list_arena,
+    };
+    on_block(pages.find_block(h, index))
 }
 
 // The place and length of block `index` of a lane, from 0.

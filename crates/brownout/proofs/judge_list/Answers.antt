@@ -11,7 +11,7 @@ pub overflow_sub-h : goal.overflow_sub-h
 overflow_sub-h c = omega (arith, (sound_facts c.args.h 0 c.requires.1).shape.from)
 
 pub are_good_blocks-requires : goal.are_good_blocks-requires
-are_good_blocks-requires c = (c.requires.0, omega (arith, (sound_facts c.args.h 0 c.requires.1).to))
+are_good_blocks-requires c = omega (arith, (sound_facts c.args.h 0 c.requires.1).to)
 
 pub returns-then-not-are_good_blocks : goal.returns-then-not-are_good_blocks
 returns-then-not-are_good_blocks c =
@@ -20,7 +20,7 @@ returns-then-not-are_good_blocks c =
 
 pub is_tail_good-requires : goal.is_tail_good-requires
 is_tail_good-requires c =
-    (c.requires.0, (c.requires.1, sym c.are_good_blocks.ensures ∙ c.if-not-are_good_blocks.false))
+    (c.requires.1, sym c.are_good_blocks.ensures ∙ c.if-not-are_good_blocks.false)
 
 pub returns-then-is_tail_good : goal.returns-then-is_tail_good
 returns-then-is_tail_good c =

@@ -120,14 +120,17 @@ returns-in_default c =
     0)) (ap (header_sound c.args.keys.now) (placed (goal.at.returns-in_default c).After-first_bucket-first) ∙ (fine
     (goal.at.returns-in_default c).Else-fault-ne0).header) (head_lost _ _ (sym c.in_default.ensures))
 
+pub invariant_of-pages : goal.invariant_of-pages
+invariant_of-pages c = record {
+  fitting = lists_sense c.args.st (lent c.args.table.now c.args.keys.now c.args.lists.now) c.requires.0;
+}
+
 pub mark_lane-requires : goal.mark_lane-requires
 mark_lane-requires c =
     record {
       record-in = (held (goal.at.mark_lane-requires c).Else-fault-ne0).record-in;
       key_short = keys_short
           c.args.st (lent c.args.table.now c.args.keys.now c.args.lists.now) c.requires.0;
-      sense = lists_sense c.args.st
-          (lent c.args.table.now c.args.keys.now c.args.lists.now) c.requires.0;
       list_short = lists_short c.args.st (lent
           c.args.table.now c.args.keys.now c.args.lists.now) c.requires.0;
       header = (headed (goal.at.mark_lane-requires

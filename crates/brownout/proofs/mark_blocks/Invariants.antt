@@ -1,10 +1,6 @@
 -- The whole marking is that of the blocks left. Assumes nothing.
-use Prim.Native.Nat.{◌-◌}
 use Rattle.brownout.proofs.Turns.{Marking}
 use Rattle.brownout.proofs.mark_blocks.Given as goal
 
 abbrev pub invariant-loop-k : goal.invariant-loop-k
-invariant-loop-k l = Marking l.initial.marks l.base l.lists l.head l.count l.marks l.place l.k
-
-abbrev pub decreases-loop-k : goal.decreases-loop-k
-decreases-loop-k l = l.count - l.k
+invariant-loop-k l = Marking l.initial.marks l.base l.lists.bytes.now l.head l.count l.marks l.place l.k

@@ -22,11 +22,11 @@ spanned c b e =
     (c.key_length-n.result + record_extra)) e c.mark_span-met.ensures
 
 blocked : (c : After-mark_blocks-again) → (b : Bool) → c.mark_blocks-again.result ≡ b → marks_out b
-    c.mark_blocks-again.new.marks ≡ mark_blocks c.mark_span-met.new.marks (length c.args.keys.now) c.args.lists.now
+    c.mark_blocks-again.new.marks ≡ mark_blocks c.mark_span-met.new.marks (length c.args.keys.now) c.args.lists.now.bytes.now
     c.args.h.head (block_count c.args.h) 0
 blocked c b e =
     subst (λ (x : Bool). marks_out x c.mark_blocks-again.new.marks ≡ mark_blocks c.mark_span-met.new.marks (length
-    c.args.keys.now) c.args.lists.now c.args.h.head (block_count c.args.h) 0) e c.mark_blocks-again.ensures
+    c.args.keys.now) c.args.lists.now.bytes.now c.args.h.head (block_count c.args.h) 0) e c.mark_blocks-again.ensures
 
 pub key_length-n-requires : goal.key_length-n-requires
 key_length-n-requires c = omega (arith, c.requires.record-in)
@@ -47,7 +47,7 @@ shape_of-marks-then-met c = c.mark_span-met.auto.marks
 
 pub returns-then-met : goal.returns-then-met
 returns-then-met c =
-    let a = c.args in lane_first (lent a.table.now a.keys.now a.lists.now) a.at a.h a.marks.now
+    let a = c.args in lane_first (lent a.table.now a.keys.now a.lists.now.bytes.now) a.at a.h a.marks.now
     c.mark_span-met.new.marks c.key_length-n.result c.key_length-n.ensures.0 (spanned (goal.at.returns-then-met
     c).After-mark_span-met true c.if-met.true)
 
@@ -56,20 +56,12 @@ overflow_sub-h c = omega (arith, (sound_facts c.args.h 0 c.requires.header).shap
 
 pub mark_blocks-again-requires : goal.mark_blocks-again-requires
 mark_blocks-again-requires c = (
-  c.requires.sense,
+  c.requires.blocks,
   (
-    c.requires.blocks,
+    omega (arith, (sound_facts c.args.h 0 c.requires.header).to),
     (
-      omega (arith, (sound_facts c.args.h 0 c.requires.header).to),
-      (
-        omega
-            (arith, c.requires.room, c.mark_span-met.auto.marks),
-        omega (
-          arith,
-          c.requires.key_short,
-          c.requires.list_short,
-        ),
-      ),
+      omega (arith, c.requires.room, c.mark_span-met.auto.marks),
+      omega (arith, c.requires.key_short, c.requires.list_short),
     ),
   ),
 )
@@ -79,7 +71,7 @@ shape_of-marks-then-again c = c.mark_blocks-again.auto.marks ∙ c.mark_span-met
 
 pub returns-then-again : goal.returns-then-again
 returns-then-again c =
-    let a = c.args in lane-then (lent a.table.now a.keys.now a.lists.now) a.at a.h a.marks.now
+    let a = c.args in lane-then (lent a.table.now a.keys.now a.lists.now.bytes.now) a.at a.h a.marks.now
     c.mark_span-met.new.marks c.key_length-n.result c.key_length-n.ensures.0 (spanned (goal.at.returns-then-again
     c).After-mark_span-met false c.if-met.false) true c.mark_blocks-again.new.marks (blocked
     (goal.at.returns-then-again c).After-mark_blocks-again true c.if-again.true)
@@ -89,7 +81,7 @@ shape_of-marks c = c.mark_blocks-again.auto.marks ∙ c.mark_span-met.auto.marks
 
 pub returns : goal.returns
 returns c =
-    let a = c.args in lane-then (lent a.table.now a.keys.now a.lists.now) a.at a.h a.marks.now
+    let a = c.args in lane-then (lent a.table.now a.keys.now a.lists.now.bytes.now) a.at a.h a.marks.now
     c.mark_span-met.new.marks c.key_length-n.result c.key_length-n.ensures.0 (spanned (goal.at.returns
     c).After-mark_span-met false c.if-met.false) false c.mark_blocks-again.new.marks (blocked (goal.at.returns
     c).After-mark_blocks-again false c.if-again.false)

@@ -12,16 +12,16 @@ use Rattle.lane_pieces.proofs.are_good_on.Goals.{Else-not-is_good_span}
 
 -- a good block lies in the memory
 in_memory : (c : Else-not-is_good_span) → c.loop-i.b + (c.get_block_size-size.result + link_size) ≤ length
-    c.args.lists.now
+    c.args.lists.now.bytes.now
 in_memory c =
-    testing-in c.loop-i.invariant c.get_block_size-size.result c.requires.0 c.is_good_span.ensures
+    testing-in c.loop-i.invariant c.get_block_size-size.result c.args.lists.now.fitting c.is_good_span.ensures
     (c.if-not-is_good_span.false)
 
 pub loop-i-init : goal.loop-i-init
 loop-i-init c = record { rest = refl }
 
 pub is_good_span-requires : goal.is_good_span-requires
-is_good_span-requires c = (sensible_facts _ _ c.requires.0).sized
+is_good_span-requires c = (sensible_facts _ _ c.args.lists.now.fitting).sized
 
 pub returns-then-not-is_good_span : goal.returns-then-not-is_good_span
 returns-then-not-is_good_span c =

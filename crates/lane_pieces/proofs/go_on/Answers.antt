@@ -17,11 +17,11 @@ overflow_add-end c =
 
 pub are_good_on-requires : goal.are_good_on-requires
 are_good_on-requires c =
-    (c.requires.sense, (going-few c.requires (met_is (goal.at.are_good_on-requires c).After-block_holding-end)).0)
+    (going-few c.requires (met_is (goal.at.are_good_on-requires c).After-block_holding-end)).0
 
 pub returns-then-not-are_good_on : goal.returns-then-not-are_good_on
 returns-then-not-are_good_on c =
-    gone-stopped c.args.arena c.args.lists.now c.args.first c.args.place c.args.given c.args.n c.args.output.now
+    gone-stopped c.args.lists.now.arena c.args.lists.now.bytes.now c.args.first c.args.place c.args.given c.args.n c.args.output.now
     (met_is (goal.at.returns-then-not-are_good_on c).After-block_holding-end) (sym c.are_good_on.ensures ∙
     c.if-not-are_good_on.true)
 
@@ -31,11 +31,11 @@ full_bytes-before-requires c =
 
 pub copy_on-requires : goal.copy_on-requires
 copy_on-requires c =
-    going-copyable c.requires (met_is (goal.at.copy_on-requires c).After-block_holding-end) (ap (λ (n : ℕ).
+    going-copyable c.requires _ _ c.args.lists.now.fitting (met_is (goal.at.copy_on-requires c).After-block_holding-end) (ap (λ (n : ℕ).
     c.args.given - n) c.full_bytes-before.ensures) (sym c.are_good_on.ensures ∙ c.if-not-are_good_on.false)
 
 pub returns : goal.returns
 returns c =
-    gone_done c.args.arena c.args.lists.now c.args.first c.args.place c.args.given c.args.n c.args.output.now
+    gone_done c.args.lists.now.arena c.args.lists.now.bytes.now c.args.first c.args.place c.args.given c.args.n c.args.output.now
     (met_is (goal.at.returns c).After-block_holding-end) (sym c.are_good_on.ensures ∙ c.if-not-are_good_on.false)
     (ap (λ (n : ℕ). c.args.given - n) c.full_bytes-before.ensures) c.copy_on.ensures.0 c.copy_on.ensures.1

@@ -29,11 +29,11 @@ many c =
     c.lane_length-length.ensures
 
 -- what it comes to, by whether the blocks that were met are good
-given_out : (c : After-slice_known-2-1) → (t : Bool) → c.put_piece.result ≡ t → piece_at c.args.arena
-    c.args.keys.now c.args.lists.now c.args.given c.args.at c.args.output.now ≡ out (cond t (Given c.min-n.result)
+given_out : (c : After-slice_known-2-1) → (t : Bool) → c.put_piece.result ≡ t → piece_at c.args.lists.now.arena
+    c.args.keys.now c.args.lists.now.bytes.now c.args.given c.args.at c.args.output.now ≡ out (cond t (Given c.min-n.result)
     (Refused 4 0)) c.put_piece.new.output
 given_out c t e =
-    let a = c.args in piece-put a.arena a.keys.now a.lists.now a.given a.at a.output.now (head-found _ _ _ (sym c.in-Some.ensures))
+    let a = c.args in piece-put a.lists.now.arena a.keys.now a.lists.now.bytes.now a.given a.at a.output.now (head-found _ _ _ (sym c.in-Some.ensures))
     (omega (
       arith,
       c.lane_length-length.ensures,
@@ -44,7 +44,7 @@ given_out c t e =
 
 pub returns-in_default : goal.returns-in_default
 returns-in_default c =
-    sym (piece_4 c.args.arena c.args.keys.now c.args.lists.now c.args.given c.args.at c.args.output.now (head_lost _
+    sym (piece_4 c.args.lists.now.arena c.args.keys.now c.args.lists.now.bytes.now c.args.given c.args.at c.args.output.now (head_lost _
     _ (sym c.in_default.ensures)))
 
 pub lane_length-length-requires : goal.lane_length-length-requires
@@ -52,7 +52,7 @@ lane_length-length-requires c = (headed (goal.at.lane_length-length-requires c).
 
 pub returns-then-is_above : goal.returns-then-is_above
 returns-then-is_above c =
-    let a = c.args in sym (piece_2 a.arena a.keys.now a.lists.now a.given a.at a.output.now (headed
+    let a = c.args in sym (piece_2 a.lists.now.arena a.keys.now a.lists.now.bytes.now a.given a.at a.output.now (headed
     (goal.at.returns-then-is_above c).In-Some) (omega (
       arith,
       c.lane_length-length.ensures,
@@ -62,12 +62,12 @@ returns-then-is_above c =
 pub returns-then-room-eq0 : goal.returns-then-room-eq0
 returns-then-room-eq0 c =
     let a = c.args in ap (λ (n : ℕ). out (Refused 8 n) a.output.now) c.lane_length-length.ensures ∙ sym (piece_8
-    a.arena a.keys.now a.lists.now a.given a.at a.output.now (headed (goal.at.returns-then-room-eq0 c).In-Some)
+    a.lists.now.arena a.keys.now a.lists.now.bytes.now a.given a.at a.output.now (headed (goal.at.returns-then-room-eq0 c).In-Some)
     (counted (goal.at.returns-then-room-eq0 c).Else-is_above) c.if-room-eq0.true)
 
 pub returns-then-n-eq0 : goal.returns-then-n-eq0
 returns-then-n-eq0 c =
-    let a = c.args in sym (piece_none a.arena a.keys.now a.lists.now a.given a.at a.output.now (headed
+    let a = c.args in sym (piece_none a.lists.now.arena a.keys.now a.lists.now.bytes.now a.given a.at a.output.now (headed
     (goal.at.returns-then-n-eq0 c).In-Some) (counted (goal.at.returns-then-n-eq0 c).Else-is_above) (placed
     (goal.at.returns-then-n-eq0 c).Else-room-eq0) c.min-n.result (many (goal.at.returns-then-n-eq0
     c).After-min-n) c.if-n-eq0.true)
@@ -76,7 +76,6 @@ pub put_piece-requires : goal.put_piece-requires
 put_piece-requires c =
     let e = many (goal.at.put_piece-requires c).After-min-n in
     let k = counted (goal.at.put_piece-requires c).Else-is_above in record {
-      sense = c.requires.0;
       sound =
           (headed (goal.at.put_piece-requires c).In-Some).ends;
       some_bytes = omega (arith, c.if-n-eq0.false);

@@ -1,11 +1,10 @@
 -- The lookup's answer, or the piece at the record found. Assumes nothing.
 use mathlib.Core.Bool.{true}
 use mathlib.Core.Path.{◌≡◌, sym, subst, ◌∙◌}
-use lib.ListN.{length}
 use Rattle.limits.specs.Refusals.{reading_piece, permitted}
 use Rattle.store_look.specs.declared.Lookup.TheVariants.{At}
 use Rattle.store_look.specs.Look.{lent}
-use Rattle.store_look.proofs.Found.{lookup-held}
+use Rattle.store_look.proofs.Found.{Held, lookup-held}
 use Rattle.store_state.proofs.Whole.{whole_facts}
 use Rattle.lane_pieces.specs.Said.{said_pieced}
 use Rattle.lane_places.specs.PieceOn.{Out, out}
@@ -13,6 +12,7 @@ use Rattle.lane_places.proofs.PieceOn.{on-looked, on_not}
 use Rattle.lane_places.proofs.Fair.{fair-on}
 use borrow.Enum.Refused.{opened}
 use Rattle.lane_places.proofs.piece_on.Goals as goal
+use Rattle.lane_places.proofs.piece_on.Goals.{In-At}
 
 pub returns-in_default : goal.returns-in_default
 returns-in_default c =
@@ -27,12 +27,16 @@ returns-in_default c =
           c.lookup-looked.ensures.walked;
     }
 
+-- the record that the lookup found
+held : (c : In-At) → Held c.args.st (lent c.args.table.now c.args.keys.now c.args.lists.now) c.in-At.at
+held c = lookup-held c.args.st (lent c.args.table.now c.args.keys.now c.args.lists.now) c.args.name.now _
+    (sym c.lookup-looked.ensures.settled ∙ c.in-At.is)
+
+pub invariant_of-pages : goal.invariant_of-pages
+invariant_of-pages c = record { fitting = (whole_facts _ _ _ _ (held (goal.at.invariant_of-pages c).In-At).whole).list_arena }
+
 pub piece_on_at-requires : goal.piece_on_at-requires
-piece_on_at-requires c =
-    let h = lookup-held c.args.st (lent c.args.table.now c.args.keys.now c.args.lists.now) c.args.name.now _ (sym
-    c.lookup-looked.ensures.settled ∙ c.in-At.is) in
-    let w = whole_facts c.args.st (length c.args.table.now) (length c.args.keys.now) (length c.args.lists.now)
-    h.whole in (w.list_arena, (h.length-in, h.value_in))
+piece_on_at-requires c = let h = held (goal.at.piece_on_at-requires c).In-At in (h.length-in, h.value_in)
 
 pub returns : goal.returns
 returns c =

@@ -31,8 +31,8 @@ many c =
 
 pub returns-in_default : goal.returns-in_default
 returns-in_default c =
-    (λ i. out (c.stays.ensures.0 i) (c.stays.ensures.1 i) c.args.output.now) ∙ sym (on_4 c.args.arena
-    c.args.keys.now c.args.lists.now c.args.p c.args.at c.args.output.now (head_lost _ _ (sym c.in_default.ensures)))
+    (λ i. out (c.stays.ensures.0 i) (c.stays.ensures.1 i) c.args.output.now) ∙ sym (on_4 c.args.lists.now.arena
+    c.args.keys.now c.args.lists.now.bytes.now c.args.p c.args.at c.args.output.now (head_lost _ _ (sym c.in_default.ensures)))
 
 pub lane_length-length-requires : goal.lane_length-length-requires
 lane_length-length-requires c = (headed (goal.at.lane_length-length-requires c).In-Some).ends
@@ -49,7 +49,7 @@ fits_length-requires c =
 pub returns-then-not-fits_length : goal.returns-then-not-fits_length
 returns-then-not-fits_length c =
     let a = c.args in (λ i. out (c.stays-then-not-fits_length.ensures.0 i) (c.stays-then-not-fits_length.ensures.1
-    i) a.output.now) ∙ sym (on_2 a.arena a.keys.now a.lists.now a.p a.at a.output.now (headed
+    i) a.output.now) ∙ sym (on_2 a.lists.now.arena a.keys.now a.lists.now.bytes.now a.p a.at a.output.now (headed
     (goal.at.returns-then-not-fits_length c).In-Some) (ap (fits_length a.p) (sym c.lane_length-length.ensures) ∙
     sym c.fits_length.ensures ∙ c.if-not-fits_length.true))
 
@@ -57,7 +57,7 @@ pub returns-then-room-eq0 : goal.returns-then-room-eq0
 returns-then-room-eq0 c =
     let a = c.args in (λ i. out (c.stays-then-room-eq0.ensures.0 i) (c.stays-then-room-eq0.ensures.1 i)
     a.output.now) ∙ ap (λ (n : ℕ). out (Refused 8 n) a.p a.output.now) c.lane_length-length.ensures ∙ sym (on_8
-    a.arena a.keys.now a.lists.now a.p a.at a.output.now (headed (goal.at.returns-then-room-eq0 c).In-Some)
+    a.lists.now.arena a.keys.now a.lists.now.bytes.now a.p a.at a.output.now (headed (goal.at.returns-then-room-eq0 c).In-Some)
     (fitting (goal.at.returns-then-room-eq0 c).Else-not-fits_length) c.if-room-eq0.true)
 
 pub overflow_sub-length : goal.overflow_sub-length
@@ -72,19 +72,19 @@ overflow_sub-length c =
 pub returns-then-n-eq0 : goal.returns-then-n-eq0
 returns-then-n-eq0 c =
     let a = c.args in (λ i. out (c.stays-then-n-eq0.ensures.0 i) (c.stays-then-n-eq0.ensures.1 i) a.output.now) ∙
-    sym (on_none a.arena a.keys.now a.lists.now a.p a.at a.output.now (headed (goal.at.returns-then-n-eq0
+    sym (on_none a.lists.now.arena a.keys.now a.lists.now.bytes.now a.p a.at a.output.now (headed (goal.at.returns-then-n-eq0
     c).In-Some) (fitting (goal.at.returns-then-n-eq0 c).Else-not-fits_length) (omega (arith, c.if-room-eq0.false))
     c.min-n.result (many (goal.at.returns-then-n-eq0 c).After-min-n) c.if-n-eq0.true)
 
 pub go_from-requires : goal.go_from-requires
 go_from-requires c =
-    fits-going (c.in-Some.h) c.args.p c.requires.0 (headed (goal.at.go_from-requires c).In-Some).ends (fitting
+    fits-going (c.in-Some.h) c.args.p (headed (goal.at.go_from-requires c).In-Some).ends (fitting
     (goal.at.go_from-requires c).Else-not-fits_length) (omega (arith, c.if-n-eq0.false)) (many
     (goal.at.go_from-requires c).After-min-n)
 
 pub returns : goal.returns
 returns c =
-    let a = c.args in c.go_from.ensures ∙ sym (on_go a.arena a.keys.now a.lists.now a.p a.at a.output.now (headed
+    let a = c.args in c.go_from.ensures ∙ sym (on_go a.lists.now.arena a.keys.now a.lists.now.bytes.now a.p a.at a.output.now (headed
     (goal.at.returns c).In-Some) (fitting (goal.at.returns c).Else-not-fits_length) (omega (
       arith,
       c.if-room-eq0.false,

@@ -9,7 +9,7 @@ use Rattle.readings.proofs.count_lane.Goals as goal
 
 pub returns : goal.returns
 returns c =
-    let R = ran (lane_bytes c.args.lists.now c.args.h) (pos 0 ∷ []) in (
+    let R = ran (lane_bytes c.args.lists.now.bytes.now c.args.h) (pos 0 ∷ []) in (
       ap (λ (t : Out). t.run.readings)
           c.take_lane.ensures ∙ R.count,
       ap (λ (t : Out). end_of t.run) c.take_lane.ensures ∙ R.end,

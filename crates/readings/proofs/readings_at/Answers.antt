@@ -37,7 +37,7 @@ overflow_sub-h c = omega (arith, (sound_facts _ 0 (headed (goal.at.overflow_sub-
 
 pub are_good_blocks-requires : goal.are_good_blocks-requires
 are_good_blocks-requires c =
-    (c.requires.0, omega (arith, (sound_facts _ 0 (headed (goal.at.are_good_blocks-requires c).In-Some).ends).to))
+    omega (arith, (sound_facts _ 0 (headed (goal.at.are_good_blocks-requires c).In-Some).ends).to)
 
 pub returns-then-not-are_good_blocks : goal.returns-then-not-are_good_blocks
 returns-then-not-are_good_blocks c =
@@ -48,12 +48,8 @@ returns-then-not-are_good_blocks c =
 
 pub count_lane-counted-requires : goal.count_lane-counted-requires
 count_lane-counted-requires c = (
-  c.requires.0,
-  (
-    (headed (goal.at.count_lane-counted-requires c).In-Some).ends,
-    good
-        (goal.at.count_lane-counted-requires c).Else-not-are_good_blocks,
-  ),
+  (headed (goal.at.count_lane-counted-requires c).In-Some).ends,
+  good (goal.at.count_lane-counted-requires c).Else-not-are_good_blocks,
 )
 
 pub returns-then-output-n : goal.returns-then-output-n
@@ -76,12 +72,8 @@ returns-then-fault-ne0 c =
 
 pub take_lane-requires : goal.take_lane-requires
 take_lane-requires c = (
-  c.requires.0,
-  (
-    (headed (goal.at.take_lane-requires c).In-Some).ends,
-    good (goal.at.take_lane-requires
-        c).Else-not-are_good_blocks,
-  ),
+  (headed (goal.at.take_lane-requires c).In-Some).ends,
+  good (goal.at.take_lane-requires c).Else-not-are_good_blocks,
 )
 
 pub returns : goal.returns

@@ -11,7 +11,7 @@ returns-in_default c =
     (head_lost _ _ (sym c.in_default.ensures)))
 
 pub find_block-requires : goal.find_block-requires
-find_block-requires c = (c.requires.0, (head-found _ _ _ (sym c.in-Some.ensures)).ends)
+find_block-requires c = (head-found _ _ _ (sym c.in-Some.ensures)).ends
 
 pub returns : goal.returns
 returns c =

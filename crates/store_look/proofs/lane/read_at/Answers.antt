@@ -34,10 +34,8 @@ pub overflow_sub-h : goal.overflow_sub-h
 overflow_sub-h c = omega (arith, (sound_facts _ 0 (headed (goal.at.overflow_sub-h c).In-Some).ends).shape.from)
 
 pub are_good_blocks-requires : goal.are_good_blocks-requires
-are_good_blocks-requires c = (
-  c.requires.0,
-  omega (arith, (sound_facts _ 0 (headed (goal.at.are_good_blocks-requires c).In-Some).ends).to),
-)
+are_good_blocks-requires c =
+    omega (arith, (sound_facts _ 0 (headed (goal.at.are_good_blocks-requires c).In-Some).ends).to)
 
 pub returns-then-not-are_good_blocks : goal.returns-then-not-are_good_blocks
 returns-then-not-are_good_blocks c =
@@ -57,15 +55,10 @@ returns-then-output-n c =
 
 pub read_to_end-requires : goal.read_to_end-requires
 read_to_end-requires c = (
-  c.requires.0,
+  (headed (goal.at.read_to_end-requires c).In-Some).ends,
   (
-    (headed (goal.at.read_to_end-requires c).In-Some).ends,
-    (
-      good (goal.at.read_to_end-requires
-          c).Else-not-are_good_blocks,
-      subst (λ (k : ℕ). k ≤ length c.args.output.now) c.lane_length-n.ensures
-          c.if-output-n.false,
-    ),
+    good (goal.at.read_to_end-requires c).Else-not-are_good_blocks,
+    subst (λ (k : ℕ). k ≤ length c.args.output.now) c.lane_length-n.ensures c.if-output-n.false,
   ),
 )
 
