@@ -5,7 +5,7 @@
 // limits, memory_arena (the state's type), store_state, report, report_read, text and say.
 #![tactic(auto)]
 
-use report::Reported;
+use report::Unwritten;
 use report_read::check::{BadLine, Lanes};
 use report_read::pick::Lane;
 use store_state::State;
@@ -22,14 +22,18 @@ fn say_refusal(n: u32, told: u64) {
 }
 
 // The report's length, its text, and whether the output behind it is kept.
-fn say_reported(r: Reported, output: &[u8]) {
-    match r {
-        Reported::Written(n) => {
+fn say_reported(reported: Result<u64, Unwritten>, output: &[u8]) {
+    match reported {
+        Ok(n) => {
             say::told(b"report ", n);
             say::written(n as usize, output)
         }
-        Reported::Refused(n, told) => {
-            say_refusal(n, told);
+        Err(Unwritten::Refused(refusal)) => {
+            say_refusal(refusal.number(), 0);
+            say::kept(output)
+        }
+        Err(Unwritten::TooShort(needed)) => {
+            say_refusal(limits::Refusal::OutputTooShort.number(), needed);
             say::kept(output)
         }
     }

@@ -6,7 +6,7 @@
 ghost use Rattle.std.specs.Prelude.{◌≤◌, ◌<◌, length};
 
 use limits::Refusal;
-use report::Reported;
+use report::Unwritten;
 use store_append::Appended;
 use store_create::Created;
 use store_state::State;
@@ -107,13 +107,15 @@ fn show(output: &[u8], n: u64) {
 }
 
 fn print(st: State, table: &[u32], keys: &[u8], lists: &[u8], output: &mut [u8]) {
-    let r = report::report(st, table, keys, lists, output);
-    match r {
-        Reported::Written(n) => {
+    match report::report(st, table, keys, lists, output) {
+        Ok(n) => {
             show(output, n);
         }
-        Reported::Refused(k, n) => {
-            say_two(b"refused", k as u64, n);
+        Err(Unwritten::Refused(refusal)) => {
+            say_refused(refusal, 0);
+        }
+        Err(Unwritten::TooShort(needed)) => {
+            say_refused(Refusal::OutputTooShort, needed);
         }
     }
 }
