@@ -1,12 +1,14 @@
 -- RULES AK10. The calls of the crates above the store in C's calling form: the brownout check, the shift report, lanes
 -- of readings.
-use Rattle.std.specs.Prelude.{ℕ, ℤ, cond, List}
+use Rattle.std.specs.Prelude.{ℕ, ℤ, cond, List, Result, Ok, Err}
 use Rattle.store_look.specs.Look.{Lent}
 use Rattle.brownout_faults.specs.declared.Checked.{Checked}
 use Rattle.brownout_faults.specs.declared.Checked.TheVariants.{Sound, Faulty, Miscounted, Refused as NotChecked}
 use Rattle.brownout_faults.specs.Check.{Out as Checking, check_of}
-use Rattle.report.specs.declared.Reported.{Reported}
-use Rattle.report.specs.declared.Reported.TheVariants.{Written, Refused as NotReported}
+use Rattle.limits.specs.declared.Refusal.TheVariants.{OutputTooShort}
+use Rattle.limits.specs.Refusals.{number_of}
+use Rattle.report.specs.declared.Unwritten.{Unwritten}
+use Rattle.report.specs.declared.Unwritten.TheVariants.{TooShort, Refused as NotReported}
 use Rattle.report.specs.Report.{Out as Reporting, report_of}
 use Rattle.readings.specs.declared.Recalled.{Recalled}
 use Rattle.readings.specs.declared.Recalled.TheVariants.{Readings, Absent, Refused}
@@ -31,9 +33,10 @@ check_in area m marks told =
     cond (sensible_area area) (check_told (check_of (state_at area) m marks) told) (says 2 0 0 told, marks)
 
 -- RULES AK10.
-abbrev pub reported_told : Reported → List ℕ → ℕ × List ℕ
-reported_told (Written n) told = says 0 n 0 told
-reported_told (NotReported n t) told = says n t 0 told
+abbrev pub reported_told : Result ℕ Unwritten → List ℕ → ℕ × List ℕ
+reported_told (Ok n) told = says 0 n 0 told
+reported_told (Err (NotReported k)) told = says (number_of k) 0 0 told
+reported_told (Err (TooShort n)) told = says (number_of OutputTooShort) n 0 told
 
 -- RULES AK10. The code and what is told, the output.
 abbrev pub report_told : Reporting → List ℕ → (ℕ × List ℕ) × List ℕ

@@ -13,7 +13,7 @@ ghost use Rattle.c_above.specs.Above.{recalled_told, readings_in};
 
 use brownout_faults::Checked;
 use readings::Recalled;
-use report::Reported;
+use report::Unwritten;
 
 const FAULT: u32 = 102;
 
@@ -55,12 +55,18 @@ pub fn check(
 
 // ---- the shift report
 
-fn tell_reported(told: &mut [u32], answer: Reported) -> u32
+fn tell_reported(told: &mut [u32], answer: Result<u64, Unwritten>) -> u32
     ensures { (result, told.new) ≡ reported_told answer told.old }
 {
     match answer {
-        Reported::Written(n) => c_told::tell(told, 0, n, 0),
-        Reported::Refused(n, t) => c_told::tell(told, n, t, 0),
+        Ok(n) => c_told::tell(told, 0, n, 0),
+        Err(Unwritten::Refused(refusal)) => c_told::tell(told, refusal.number(), 0, 0),
+        Err(Unwritten::TooShort(needed)) => c_told::tell(
+            told,
+            limits::Refusal::OutputTooShort.number(),
+            needed,
+            0,
+        ),
     }
 }
 

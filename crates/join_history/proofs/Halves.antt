@@ -29,9 +29,10 @@ use Rattle.history.proofs.Log.{play-more, log-more, joined-more}
 use Rattle.history.proofs.Told.{times_none}
 use Rattle.history.proofs.Demand.{demand_3}
 use Rattle.report_text.specs.Text.{Lane, lane as lane_of}
-use Rattle.report_lanes.specs.declared.NextLane.TheVariants.{Lane as MetLane, Halt}
+use Rattle.std.specs.Prelude.{Ok, Err}
+use Rattle.limits.specs.declared.Refusal.TheVariants.{Damage}
 use Rattle.report_lanes.specs.Lanes.{Gathered, gathered, halted, lane_before, lane_at, on_listed, gather_from}
-use Rattle.report_lanes.specs.Measure.{met_of, on_next_lane, next_lane_of}
+use Rattle.report_lanes.specs.Measure.{met_lane, some_lane, met_of, on_next_lane, next_lane_of}
 use Rattle.report_history.specs.Promises.{EachJoined}
 use Rattle.report_history.proofs.Names.{names_of}
 use Rattle.report_history.proofs.Demand.{all, gathers, each-joined, names_are}
@@ -61,9 +62,9 @@ told-gathered v (suc n) i ls e =
 
     met : (j at : ℕ) (b : Bool) (g : ℕ → Gathered)
         → ((j : ℕ) (ks : List Lane) → g j ≡ gathered ks → told_from v n j ≡ map (λ a. lane a) ks)
-        → (ls : List Lane) → cond b (lane_before (lane_at v.memory at) (g (j + 1))) (halted 4) ≡ gathered ls
-        → told_on (cond b (MetLane j at (key_length v.memory.keys at) (lane_length (header_of v.memory.keys at)))
-        (Halt 4))
+        → (ls : List Lane) → cond b (lane_before (lane_at v.memory at) (g (j + 1))) (halted Damage) ≡ gathered ls
+        → told_on (some_lane (cond b (Ok (met_lane j at (key_length v.memory.keys at)
+        (lane_length (header_of v.memory.keys at)))) (Err Damage)))
         v.memory (λ j. told_from v n j) ≡ map (λ a. lane a) ls
     met j at true g f ls e = found at (g (j + 1)) (told_from v n (j + 1)) (f (j + 1)) ls e
     met j at false g f ls e = let z : ◌≡◌ {A = ℕ} 0 1 = cc in absurd (omega arith)

@@ -33,7 +33,7 @@ use Rattle.report_text.proofs.Values.{below_or}
 use Rattle.report_read.specs.Counted.{checked_of}
 use Rattle.report_lanes.specs.Lanes.{gathered, lane_at, on_listed, gather_from, gather_all}
 use Rattle.report_lanes.proofs.Measuring.{sound-lane_most}
-use Rattle.report.specs.declared.Reported.TheVariants.{Written}
+use Rattle.std.specs.Prelude.{Ok}
 use Rattle.report.specs.Report.{Out, out, on_gathered, report_of}
 use Rattle.report_history.specs.Promises.{EachJoined, ReportsBack}
 use Rattle.report_history.proofs.Bytes.{bytes_key, bytes-lane}
@@ -202,7 +202,7 @@ module _ (w : World) (calls : List Call) (D : Demand3 w calls) where
 
   written : (output : List ℕ) → length (report_text all) ≤ length output
       → report_of now.state now.memory output
-      ≡ out (Written (length (report_text all))) (overwrite 0 (report_text all) output)
+      ≡ out (Ok (length (report_text all))) (overwrite 0 (report_text all) output)
   written output l =
       report_is now all output D.whole (gathers now.state.buckets 0)
       ∙ rw (le-leb (length (report_text all)) (length output) l)

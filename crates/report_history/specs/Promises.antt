@@ -1,7 +1,7 @@
 -- RULES AA14. "A report of a store with a history reads back as the same lanes in order." One record, a field a
 -- sentence; `reports_back` of proofs/Demand.antt proves it of each store that an accepted creation made and of any
 -- calls on it.
-use Rattle.std.specs.Prelude.{ℕ, ◌≤◌, ◌<◌, ◌≡◌, List, [], ◌∷◌, map, length}
+use Rattle.std.specs.Prelude.{ℕ, ◌≤◌, ◌<◌, ◌≡◌, List, [], ◌∷◌, map, length, Ok, Err}
 use Rattle.std.proofs.Math.Option.{some}
 use Rattle.numbers.specs.LittleEndian.{Bytes}
 use Rattle.spans.specs.Span.{read_span, overwrite}
@@ -10,7 +10,7 @@ use Rattle.history.specs.Promises.{listed_names}
 use Rattle.report_text.specs.Text.{Lane, total_of, report_text}
 use Rattle.report_text.specs.Reader.{lanes, text_read}
 use Rattle.report_read.specs.Counted.{lanes_counted, checked_of}
-use Rattle.report.specs.declared.Reported.TheVariants.{Written, Refused}
+use Rattle.report.specs.declared.Unwritten.TheVariants.{TooShort}
 use Rattle.report.specs.Report.{out, report_of}
 
 -- RULES AA14. Each lane's bytes are its accepted appends, joined in order.
@@ -26,9 +26,9 @@ pub record ReportsBack (w : World) (calls : List Call) (ls : List Lane) : Type 0
   -- the report is their text, or tells its length: no other number ever comes
   pub written : (output : List ℕ) → length (report_text ls) ≤ length output
       → report_of (play calls w).state (play calls w).memory output
-      ≡ out (Written (length (report_text ls))) (overwrite 0 (report_text ls) output)
+      ≡ out (Ok (length (report_text ls))) (overwrite 0 (report_text ls) output)
   pub unwritten : (output : List ℕ) → length output < length (report_text ls)
-      → report_of (play calls w).state (play calls w).memory output ≡ out (Refused 8 (length (report_text ls))) output
+      → report_of (play calls w).state (play calls w).memory output ≡ out (Err (TooShort (length (report_text ls)))) output
   -- what is written, where the lent memory is of bytes, reads back as the same lanes in order, and so it checks
   pub read_back : Bytes (play calls w).memory.keys → Bytes (play calls w).memory.lists
       → (output : List ℕ) → length (report_text ls) ≤ length output

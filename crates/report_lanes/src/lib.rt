@@ -62,8 +62,7 @@ fn meet(
     ensures { (result ≡ met_of st (lent table.now keys.now lists.now) bucket at)
         × SmallLane st.buckets result }
 {
-    let mut none = [0u8; 1];
-    let answer = store_look::lane::read_at(st, table, keys, lists, at, &mut none[0..0]);
+    let answer = store_look::lane::read_at(st, table, keys, lists, at, &mut []);
     let bytes = length_told(answer)?;
     let name = records::key_length(keys, at) as u64;
     Ok(MetLane {
@@ -74,7 +73,7 @@ fn meet(
     })
 }
 
-// Why the listing stopped: damage, or a state that isn't one of the memory.
+// Why the listing stopped, which it tells by number: a state that isn't one of the memory, or damage.
 fn stopped(number: u32) -> Refusal
     ensures { result ≡ stopped_by number }
 {

@@ -2,7 +2,7 @@
 use Prim.Native.Nat.{ℕ, zero, suc, ◌+◌, ◌-◌, ◌*◌, ◌≤◌, ◌<◌}
 use mathlib.Core.Path.{◌≡◌, refl, sym, ap, ◌∙◌}
 use mathlib.Core.Bool.{Bool, true, false, cond}
-use Rattle.std.specs.Prelude.{Option, None, Some, unwrap_or, not, nat_eq, position}
+use Rattle.std.specs.Prelude.{min, Option, None, Some, unwrap_or, not, nat_eq, position}
 use Rattle.std.specs.List.{position_or_len}
 use mathlib.Core.List.{List, [], ◌∷◌}
 use native.Mathlib.Omega.{arith}
@@ -114,8 +114,15 @@ next-in t at h = go (ltb (line_end t at) (length t)) refl
 pub next-found : (t : List ℕ) (at e : ℕ) → e ≡ line_end t at → e < length t → e + 1 ≡ next_line t at
 next-found t at e p h = sym (next_is t at (omega arith) ∙ ap (λ (n : ℕ). n + 1) (sym p))
 
-pub next_none : (t : List ℕ) (at e : ℕ) → e ≡ line_end t at → length t ≤ e → e ≡ next_line t at
-next_none t at e p h = p ∙ sym (next-end t at (omega arith))
+-- by the lesser of two places
+pub next_least : (t : List ℕ) (at e r : ℕ) → e ≡ line_end t at → e ≤ length t → r ≡ min (length t) (e + 1)
+    → r ≡ next_line t at
+unfolding next_line
+next_least t at e r p l q = go (ltb (line_end t at) (length t)) refl
+  where
+    go : (b : Bool) → ltb (line_end t at) (length t) ≡ b → r ≡ cond b (line_end t at + 1) (line_end t at)
+    go true h = let k = ltb-true (line_end t at) (length t) h in omega arith
+    go false h = let k = ltb-false (line_end t at) (length t) h in omega arith
 
 -- from a place on
 pub ended_at : (t : List ℕ) (at : ℕ) → line_end t at < length t

@@ -40,11 +40,7 @@ fn next_line(text: &[u8], from: usize) -> usize
     requires { from ≤ length text.now }
     ensures { (result ≡ next_line text.now from) × (result ≤ length text.now) }
 {
-    let e = line_end(text, from);
-    if e < text.len() {
-        return e + 1;
-    }
-    e
+    text.len().min(line_end(text, from) + 1)
 }
 
 // Seven bytes and twice n on, or the text's end.
@@ -52,16 +48,12 @@ fn go_ahead(text: &[u8], at: usize, n: u64) -> usize
     requires { at ≤ length text.now }
     ensures { (result ≡ ahead text.now at (7 + 2 * n)) × (result ≤ length text.now) }
 {
-    let size = text.len();
-    let left = (size - at) as u64;
-    if left / 2 < n {
-        return size;
+    let room = (text.len() - at) as u64;
+    let ahead = n.saturating_mul(2).saturating_add(7);
+    if room < ahead {
+        return text.len();
     }
-    let behind = left - 2 * n;
-    if behind < 7 {
-        return size;
-    }
-    size - ((behind - 7) as usize)
+    at + ahead as usize
 }
 
 // Where the next lane begins. A lane's bytes= line is as long as its len= line tells, so it isn't gone through.
