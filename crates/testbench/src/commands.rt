@@ -1,75 +1,88 @@
 // The commands: one table, from which their names, their numbers of words and their usage texts come.
+use self::Command::{Flat, Help, Join, Lend, On, One, Walk};
+use bench_areas::Command::{Dump, Poke, Sum};
+use bench_lower::Command::{Allocate, Equal, Get, Put, Unvint, Vint};
+use bench_one::Command::{Areas, Check, Lower, Pieces, Read, Readings, Report, State, Write};
+use bench_pieces::Command::{Feed, Piece};
+use bench_read::Command::{Block, Count, Length, Lookup, Next, Show};
+use bench_readings::Command::{Drift, Recall};
+use bench_report::Command::{ReportLane, Unreport};
+use bench_state::Command::Set;
+use bench_write::Command::{Append, Create};
 use script::rows;
+use std::io;
 
-// A row a command: its number, then how it is written. The tens of the number say whose `play` has its arm: by way of
-// bench_one 1 bench_write, 2 bench_read, 3 bench_state, 4 bench_areas, 5 bench_lower, 6 bench_report, 7 bench_readings,
-// 8 bench_pieces, 9 bench_check; 10 bench_flat, 11 bench_join. `on` is bench_both's, `lend` and `walk` are bench_lent's,
-// `help` is this program's.
-const TABLE: [u8; 915] = *b"1 lend WORDS KEYBYTES LISTBYTES HH
-10 create CAPACITY SEED [SIZE]
-11 append NAME BYTES
-20 lookup NAME
-21 length NAME
-22 read NAME ROOM
-23 block NAME INDEX
-24 show PLACE LENGTH
-25 next INDEX
-26 count
-30 state
-31 set FIELD NUMBER
-40 poke AREA PLACE BYTES-or-WORD
-41 dump AREA PLACE COUNT
-42 sum
-50 hash SEED BYTES
-51 vint N
-52 unvint BYTES
-53 equal A B
-54 copy A B
-55 allocate PAGE USED LENGTH N [SIZE]
-56 get PAGE USED LENGTH PLACE N [SIZE]
-57 put PAGE USED LENGTH PLACE BYTES [SIZE]
-2 help
-60 report ROOM
-61 unreport BYTES
-62 report-lane BYTES INDEX
-70 drift NAME LAST READING
-71 readings NAME ROOM
-80 piece NAME GIVEN ROOM
-81 feed COUNT HELD FED PIECE ROOM END
-90 check MARKBYTES HH
-3 walk
-100 flat-lend BYTES HH
-101 flat-used N
-102 flat-append NAME BYTES
-103 flat-lookup NAME
-104 flat-length NAME
-105 flat-read NAME ROOM
-106 flat-poke PLACE BYTES
-107 flat-dump PLACE COUNT
-108 flat-sum
-110 on STORE
-111 join ROOM
-";
-
-// The number of the command that a line is, 0 where it can't be played.
-pub fn number_of(line: &[u8], is_long: bool) -> u64 {
-    rows::number_of(&TABLE, line, is_long)
+#[derive(Clone, Copy)]
+pub enum Command {
+    Help,
+    // a store's memory, and the walk that the last call by name told
+    Lend,
+    Walk,
+    // one of the two stores, and both
+    On,
+    Join,
+    // on the store that is talked to, and on the flat store
+    One(bench_one::Command),
+    Flat(bench_flat::Command),
 }
 
-// Why a line can't be played.
-pub fn say_fault(line: &[u8], is_long: bool) {
-    rows::say_fault(&TABLE, line, is_long);
-}
+// How each command is written. What two groups of commands share a name for is named in full.
+pub const TABLE: [(Command, &str); 44] = [
+    (Lend, "lend WORDS KEYBYTES LISTBYTES HH"),
+    (One(Write(Create)), "create CAPACITY SEED [SIZE]"),
+    (One(Write(Append)), "append NAME BYTES"),
+    (One(Read(Lookup)), "lookup NAME"),
+    (One(Read(Length)), "length NAME"),
+    (One(Read(bench_read::Command::Read)), "read NAME ROOM"),
+    (One(Read(Block)), "block NAME INDEX"),
+    (One(Read(Show)), "show PLACE LENGTH"),
+    (One(Read(Next)), "next INDEX"),
+    (One(Read(Count)), "count"),
+    (One(State(bench_state::Command::State)), "state"),
+    (One(State(Set)), "set FIELD NUMBER"),
+    (One(Areas(Poke)), "poke AREA PLACE BYTES-or-WORD"),
+    (One(Areas(Dump)), "dump AREA PLACE COUNT"),
+    (One(Areas(Sum)), "sum"),
+    (One(Lower(bench_lower::Command::Hash)), "hash SEED BYTES"),
+    (One(Lower(Vint)), "vint N"),
+    (One(Lower(Unvint)), "unvint BYTES"),
+    (One(Lower(Equal)), "equal A B"),
+    (One(Lower(bench_lower::Command::Copy)), "copy A B"),
+    (One(Lower(Allocate)), "allocate PAGE USED LENGTH N [SIZE]"),
+    (One(Lower(Get)), "get PAGE USED LENGTH PLACE N [SIZE]"),
+    (One(Lower(Put)), "put PAGE USED LENGTH PLACE BYTES [SIZE]"),
+    (Help, "help"),
+    (One(Report(bench_report::Command::Report)), "report ROOM"),
+    (One(Report(Unreport)), "unreport BYTES"),
+    (One(Report(ReportLane)), "report-lane BYTES INDEX"),
+    (One(Readings(Drift)), "drift NAME LAST READING"),
+    (One(Readings(Recall)), "readings NAME ROOM"),
+    (One(Pieces(Piece)), "piece NAME GIVEN ROOM"),
+    (One(Pieces(Feed)), "feed COUNT HELD FED PIECE ROOM END"),
+    (One(Check), "check MARKBYTES HH"),
+    (Walk, "walk"),
+    (Flat(bench_flat::Command::Lend), "flat-lend BYTES HH"),
+    (Flat(bench_flat::Command::Used), "flat-used N"),
+    (Flat(bench_flat::Command::Append), "flat-append NAME BYTES"),
+    (Flat(bench_flat::Command::Lookup), "flat-lookup NAME"),
+    (Flat(bench_flat::Command::Length), "flat-length NAME"),
+    (Flat(bench_flat::Command::Read), "flat-read NAME ROOM"),
+    (Flat(bench_flat::Command::Poke), "flat-poke PLACE BYTES"),
+    (Flat(bench_flat::Command::Dump), "flat-dump PLACE COUNT"),
+    (Flat(bench_flat::Command::Sum), "flat-sum"),
+    (On, "on STORE"),
+    (Join, "join ROOM"),
+];
 
 // `help`: how words are written, then the commands, one to a line.
-pub fn help() {
-    say::text(
-        b"# a command to a line, words one space apart; an empty line and one that begins with # are passed over
+pub fn help(out: &impl Print) -> io::Result<()> {
+    print!(out;
+        "# a command to a line, words one space apart; an empty line and one that begins with # are passed over
 # NUMBERS are decimal
 # BYTES and NAMES are hex pairs, - for none, N*HH for N times a byte, joined by +, or 'letters-and-digits
 # AREA is table (of words), keys or lists; FIELD is a name that state tells; end is 0 at the front, 1 at the back
 # allocate, get and put: the bare arena over the first LENGTH bytes of the lent list area
-",
-    );
-    rows::say_all(&TABLE)
+"
+    )?;
+    rows::say_all(out, &TABLE)
 }
