@@ -1,7 +1,6 @@
 -- The refusals in their order; nothing is written before the last. Assumes nothing.
 use mathlib.Core.Bool.{true}
 use mathlib.Core.Path.{◌≡◌, sym, ap, ◌∙◌}
-use lib.ListN.{length}
 use Rattle.memory_arena.proofs.Laws.{sensible_facts}
 use Rattle.store_append.proofs.Cases.{standing_4, standing_4_tail, standing_on, standing_7, plan_none}
 use Rattle.records.proofs.Laws.{Headed, head-found, head_lost}
@@ -16,33 +15,30 @@ use Rattle.store_append.proofs.append_standing.Goals.{Else-not-is_good_tail, In-
 
 -- what the header that was found says
 headed : (c : In-Sound) → Headed c.args.keys.now c.args.at c.in-Sound.h
-headed c = head-found _ _ _ (sym c.get_head-head.ensures ∙ c.in-Sound.is)
+headed c = head-found _ _ _ (sym c.get_head.ensures ∙ c.in-Sound.is)
 
 tail : (c : Else-not-is_good_tail) → good_tail c.args.st.list_arena (header_of c.args.keys.now c.args.at) ≡ true
 tail c =
     sym (c.is_good_tail.ensures ∙ ap (good_tail c.args.st.list_arena) (let it : Headed c.args.keys.now c.args.at
-    c.in-Sound.h = head-found _ _ _ (sym c.get_head-head.ensures ∙ c.in-Sound.is) in it).is) ∙
+    c.in-Sound.h = head-found _ _ _ (sym c.get_head.ensures ∙ c.in-Sound.is) in it).is) ∙
     c.if-not-is_good_tail.false
 
 pub returns-in_default : goal.returns-in_default
 returns-in_default c =
-    sym (standing_4 c.args.st (lent c.args.table.now c.args.keys.now c.args.lists.now) c.args.bytes.now
-    c.args.bytes.now c.args.at (head_lost _ _ (sym c.get_head-head.ensures ∙ c.in_default.is)))
+    sym (standing_4 _ _ c.args.bytes.now c.args.bytes.now c.args.at (head_lost _ _ (sym c.get_head.ensures ∙ c.in_default.is)))
 
 pub is_good_tail-requires : goal.is_good_tail-requires
 is_good_tail-requires c =
-    (sensible_facts _ _ (whole_facts c.args.st (length c.args.table.now) (length c.args.keys.now) (length
-    c.args.lists.now) c.requires.0).list_arena).sized
+    (sensible_facts _ _ (whole_facts _ _ _ _ c.requires.0).list_arena).sized
 
 pub returns-then-not-is_good_tail : goal.returns-then-not-is_good_tail
 returns-then-not-is_good_tail c =
-    let h = headed (goal.at.returns-then-not-is_good_tail c).In-Sound in sym (standing_4_tail c.args.st (lent
-    c.args.table.now c.args.keys.now c.args.lists.now) c.args.bytes.now c.args.bytes.now c.args.at (sym
+    let h = headed (goal.at.returns-then-not-is_good_tail c).In-Sound in sym (standing_4_tail _ _ c.args.bytes.now c.args.bytes.now c.args.at (sym
     (c.is_good_tail.ensures ∙ ap (good_tail c.args.st.list_arena) h.is) ∙ c.if-not-is_good_tail.true))
 
 pub blocks_fit-requires : goal.blocks_fit-requires
 blocks_fit-requires c = (
-  (whole_facts c.args.st (length c.args.table.now) (length c.args.keys.now) (length c.args.lists.now)
+  (whole_facts _ _ _ _
       c.requires.0).list_arena,
   (sound_facts _ 0 (headed (goal.at.blocks_fit-requires c).In-Sound).ends).to,
 )
