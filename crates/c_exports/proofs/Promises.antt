@@ -12,8 +12,7 @@ use Rattle.spans.specs.Span.{overwrite}
 use Rattle.shared_arena_hashmap.specs.Power.{rounded_down}
 use Rattle.shared_arena_hashmap.specs.Buckets.{cleared}
 use Rattle.store_state.specs.declared.State.{State}
-use Rattle.store_create.specs.declared.Created.{Created}
-use Rattle.store_create.specs.declared.Created.TheVariants.{Made, Barred}
+use Rattle.store_create.specs.Create.{Created}
 use Rattle.store_append.specs.declared.Appended.{Appended}
 use Rattle.store_append.specs.declared.Appended.TheVariants.{Accepted, Declined}
 use Rattle.store_create.specs.Create.{out, creatable, fresh_state, create_of}
@@ -28,6 +27,8 @@ use Rattle.c_told.specs.Told.{saved_created, created, saved_appended, appended}
 use Rattle.c_told.proofs.Seed.{seed_kept}
 use Rattle.c_exports.specs.Calls.{create_in, append_in}
 use Rattle.c_exports.specs.Promises.{Held, Promises}
+use Rattle.std.specs.Prelude.{Ok, Err}
+use Rattle.limits.specs.declared.Refusal.TheVariants.{NotCreatable}
 
 -- a state that fits, saved
 held : (x : ℕ × List ℕ) (st : State) (area : List ℕ) → x ≡ (0, overwrite 0 (area_of st) area) → Fits st
@@ -43,7 +44,7 @@ held x st area e f h =
 
 -- what an accepted creation says of its settings
 made_facts : (capacity seed size : ℕ) (table : List ℕ) (k l : ℕ) (st : State)
-    → (create_of capacity seed size table k l).answer ≡ Made st
+    → (create_of capacity seed size table k l).answer ≡ Ok st
     → (creatable capacity size (length table) k l ≡ true) × (st.seed ≡ seed)
 unfolding create_of
 made_facts capacity seed size table k l st = go (creatable capacity size (length table) k l) refl
@@ -52,13 +53,13 @@ made_facts capacity seed size table k l st = go (creatable capacity size (length
     new = fresh_state seed size (length table) k l (rounded_down capacity)
 
     go : (b : Bool) → creatable capacity size (length table) k l ≡ b
-        → (cond b (out (Made new) (cleared 0 (rounded_down capacity) table)) (out (Barred 1) table)).answer ≡ Made st
+        → (cond b (out (Ok new) (cleared 0 (rounded_down capacity) table)) (out (Err NotCreatable) table)).answer ≡ Ok st
         → (creatable capacity size (length table) k l ≡ true) × (st.seed ≡ seed)
     go true c e = let q : new ≡ st = cc in (c, sym (ap (λ (s : State). s.seed) q))
     go false c e = let z : ◌≡◌ {A = ℕ} 0 1 = cc in absurd (omega arith)
 
 create_held : (capacity seed size : ℕ) (area table keys lists : List ℕ) (st : State) → seed < 2 ^ 32
-    → area_size ≤ length area → (create_of capacity seed size table (length keys) (length lists)).answer ≡ Made st
+    → area_size ≤ length area → (create_of capacity seed size table (length keys) (length lists)).answer ≡ Ok st
     → Held (create_in capacity seed size area table (length keys) (length lists)).0 st
 create_held capacity seed size area table keys lists st s h e =
     let c = made_facts capacity seed size table (length keys) (length lists) st e in

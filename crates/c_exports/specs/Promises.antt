@@ -3,13 +3,13 @@
 use Rattle.std.specs.Prelude.{ℕ, ◌≤◌, ◌<◌, ◌^◌, ◌≢◌, ◌≡◌, true, false, List, length}
 use Rattle.numbers.specs.LittleEndian.{Bytes}
 use Rattle.store_state.specs.declared.State.{State}
-use Rattle.store_create.specs.declared.Created.TheVariants.{Made}
 use Rattle.store_append.specs.declared.Appended.TheVariants.{Accepted}
 use Rattle.store_create.specs.Create.{create_of}
 use Rattle.store_look.specs.Look.{Lent}
 use Rattle.store_append.specs.Append.{append_of}
 use Rattle.state_area.specs.Area.{area_size, sensible_area, state_at}
 use Rattle.c_exports.specs.Calls.{create_in, append_in}
+use Rattle.std.specs.Prelude.{Ok}
 
 -- RULES AK8. The code is 0, and the area afterwards is a sensible one that holds a state.
 abbrev pub Held : ℕ × List ℕ → State → Type 0
@@ -19,7 +19,7 @@ Held x st = (x.0 ≡ 0) × ((sensible_area x.1 ≡ true) × (state_at x.1 ≡ st
 pub record Promises : Type 0 where
   -- an accepted creation leaves the fresh store's state in the area, whatever that held
   pub create_held : (capacity seed size : ℕ) (area table keys lists : List ℕ) (st : State) → seed < 2 ^ 32
-      → area_size ≤ length area → (create_of capacity seed size table (length keys) (length lists)).answer ≡ Made st
+      → area_size ≤ length area → (create_of capacity seed size table (length keys) (length lists)).answer ≡ Ok st
       → Held (create_in capacity seed size area table (length keys) (length lists)).0 st
   -- an accepted append leaves the state that it gave: the next call begins with it
   pub append-held : (area : List ℕ) (m : Lent) (name bytes : List ℕ) (st : State) → Bytes area

@@ -7,8 +7,8 @@
 // the state), replay, text, say, script, bench_state, bench_areas, bench_read, and the kit's io.
 #![tactic(auto)]
 
+use limits::Refusal;
 use script::{lines, rows};
-use store_create::Created;
 use store_state::State;
 use text::{fault, words};
 
@@ -42,14 +42,14 @@ fn gather(s: Shift, line: &[u8], script: &mut [u8]) -> Shift {
 }
 
 // The state after a replay.
-fn say_replayed(made: Created, st: State) -> State {
+fn say_replayed(made: Result<State, Refusal>, st: State) -> State {
     match made {
-        Created::Made(played) => {
+        Ok(played) => {
             say::line(b"replayed");
             played
         }
-        Created::Barred(n) => {
-            say::refused(n);
+        Err(e) => {
+            say::refused(e.number());
             st
         }
     }

@@ -20,7 +20,7 @@ ghost use Rattle.store_append.specs.Said.{said_appended};
 ghost use Rattle.store_state.specs.State.{first_of};
 ghost use Rattle.store_state.specs.Name.{name_limit_of, name_kind};
 ghost use Rattle.store_look.specs.Look.{lent, checked, walk_of, looked_of};
-ghost use Rattle.store_append.specs.Append.{out, room_to_grow, is_saturated, is_crowded, grown_state, state_grown};
+ghost use Rattle.store_append.specs.Append.{out, room_to_grow, is_saturated, is_crowded, grows, grown_state, state_grown};
 ghost use Rattle.store_append.specs.Append.{table_grown, moved_state, append_standing, Planned, standing_written};
 ghost use Rattle.store_append.specs.Append.{new_written, append_new, on_met, append_of, Looked, LastEmpty, Carried};
 
@@ -75,6 +75,14 @@ fn is_crowded(st: State) -> bool
     is_saturated(st) && !has_room_to_grow(st)
 }
 
+// Whether an append grows the table: it is saturated and has room for that.
+fn grows(st: State) -> bool
+    requires { (st.keys ≤ st.buckets) × (st.buckets ≤ bucket_limit) }
+    ensures { result ≡ grows st }
+{
+    is_saturated(st) && has_room_to_grow(st)
+}
+
 // The state with the grown table at the other end.
 fn grown_state(st: State) -> State
     requires { st.buckets ≤ bucket_limit }
@@ -94,10 +102,7 @@ fn grow_table(st: State, table: &mut [u32]) -> State
         × ((0 < st.buckets) × ((st.keys ≤ st.buckets) × (st.buckets ≤ bucket_limit)))) }
     ensures { (result ≡ state_grown st) × (table.new ≡ table_grown st table.old) }
 {
-    if !is_saturated(st) {
-        return st;
-    }
-    if !has_room_to_grow(st) {
+    if !grows(st) {
         return st;
     }
     let old = store_state::first_bucket(st);
@@ -135,8 +140,7 @@ fn write_standing(
         ≡ standing_written (appended bytes.now (writing lists.old st.list_arena h)) st
         (lent table.old keys.old lists.old) at }
 {
-    let arena = st.list_arena;
-    let list = expull_append::extend_from_slice(lists, arena, h, bytes);
+    let list = expull_append::extend_from_slice(lists, st.list_arena, h, bytes);
     let place = records::value_place(keys, at);
     expull_header::put_header(keys, place, list.header);
     let grown = grow_table(st, table);
@@ -158,14 +162,13 @@ fn append_standing(
         ≡ append_standing st (lent table.old keys.old lists.old) at
         bytes.now }
 {
-    let arena = st.list_arena;
     let Some(h) = records::get_head(keys, at) else {
         return Appended::Declined(st, 4);
     };
-    if !expull_append::is_good_tail(arena, h) {
+    if !expull_append::is_good_tail(st.list_arena, h) {
         return Appended::Declined(st, 4);
     }
-    if !expull_append::blocks_fit(arena, lists.len(), h, bytes.len()) {
+    if !expull_append::blocks_fit(st.list_arena, lists.len(), h, bytes.len()) {
         return Appended::Declined(st, 7);
     }
     write_standing(st, table, keys, lists, at, h, bytes)
@@ -191,9 +194,8 @@ fn write_new(
         ≡ new_written (appended bytes.now (writing lists.old st.list_arena fresh)) st
         (lent table.old keys.old lists.old) name.now room.at room.after }
 {
-    let arena = st.list_arena;
     let h = expull_header::fresh_header();
-    let list = expull_append::extend_from_slice(lists, arena, h, bytes);
+    let list = expull_append::extend_from_slice(lists, st.list_arena, h, bytes);
     records::put_record(keys, room.at as usize, name, list.header);
     let grown = grow_table(st, table);
     enter_new(st.buckets, grown, table, room.at, hash, looked);
@@ -315,8 +317,7 @@ fn append_proper(
 {
     let hash = murmurhash2::murmurhash2(name, st.seed);
     let w = store_look::walk_hashed(st, table, keys, lists, hash, name);
-    let met = w.met;
-    let answer = append_met(st, table, keys, lists, name, bytes, hash, met, w.looked);
+    let answer = append_met(st, table, keys, lists, name, bytes, hash, w.met, w.looked);
     ToldAppend {
         answer,
         walk: w.looked,
@@ -345,8 +346,7 @@ pub fn append(
             walk: 0,
         };
     }
-    let kind = store_state::name_kind(st, name.len());
-    match kind {
+    match store_state::name_kind(st, name.len()) {
         Name::TooLong => ToldAppend {
             answer: Appended::Declined(st, 3),
             walk: 0,

@@ -20,59 +20,47 @@ whole : (c : Else-not-is_whole_state) → checked c.args.st (lent c.args.table.n
 whole c = sym c.is_whole_state.ensures ∙ c.if-not-is_whole_state.false
 
 proper : (c : In-Proper) → name_kind c.args.st (length c.args.name.now) ≡ Proper
-proper c = sym c.name_kind-kind.ensures ∙ c.in-Proper.is
+proper c = sym c.name_kind.ensures ∙ c.in-Proper.is
 
 pub returns-then-not-is_whole_state : goal.returns-then-not-is_whole_state
 returns-then-not-is_whole_state c =
     let e = sym c.is_whole_state.ensures ∙ c.if-not-is_whole_state.true in record {
-      settled = sym (append_2
-          c.args.st (lent c.args.table.now c.args.keys.now c.args.lists.now) c.args.name.now c.args.bytes.now e);
-      numbered
-          = refl;
-      walked = sym (looked_2 c.args.st (lent c.args.table.now c.args.keys.now c.args.lists.now)
-          c.args.name.now e);
+      settled = sym (append_2 _ _ _ _ e);
+      numbered = refl;
+      walked = sym (looked_2 _ _ _ e);
     }
 
 pub append_proper-requires : goal.append_proper-requires
 append_proper-requires c = (
   whole (goal.at.append_proper-requires c).Else-not-is_whole_state,
-  proper (goal.at.append_proper-requires
-      c).In-Proper,
+  proper (goal.at.append_proper-requires c).In-Proper,
 )
 
 pub returns-in-TooLong : goal.returns-in-TooLong
 returns-in-TooLong c =
-    let k = sym c.name_kind-kind.ensures ∙ c.in-TooLong.is in record {
-      settled = sym (append_3 c.args.st (lent
-          c.args.table.now c.args.keys.now c.args.lists.now) c.args.name.now c.args.bytes.now (whole
-          (goal.at.returns-in-TooLong c).Else-not-is_whole_state) k);
+    let k = sym c.name_kind.ensures ∙ c.in-TooLong.is in
+    let e = whole (goal.at.returns-in-TooLong c).Else-not-is_whole_state in record {
+      settled = sym (append_3 _ _ _ _ e k);
       numbered = refl;
-      walked = sym (looked_3 c.args.st
-          (lent c.args.table.now c.args.keys.now c.args.lists.now) c.args.name.now (whole (goal.at.returns-in-TooLong
-          c).Else-not-is_whole_state) k);
+      walked = sym (looked_3 _ _ _ e k);
     }
 
 pub returns-in-Nameless : goal.returns-in-Nameless
 returns-in-Nameless c =
-    let k = sym c.name_kind-kind.ensures ∙ c.in-Nameless.is in record {
-      settled = sym (append_13 c.args.st (lent
-          c.args.table.now c.args.keys.now c.args.lists.now) c.args.name.now c.args.bytes.now (whole
-          (goal.at.returns-in-Nameless c).Else-not-is_whole_state) k);
+    let k = sym c.name_kind.ensures ∙ c.in-Nameless.is in
+    let e = whole (goal.at.returns-in-Nameless c).Else-not-is_whole_state in record {
+      settled = sym (append_13 _ _ _ _ e k);
       numbered = refl;
-      walked = sym (looked-nameless
-          c.args.st (lent c.args.table.now c.args.keys.now c.args.lists.now) c.args.name.now (whole
-          (goal.at.returns-in-Nameless c).Else-not-is_whole_state) k);
+      walked = sym (looked-nameless _ _ _ e k);
     }
 
 pub returns-in-Proper : goal.returns-in-Proper
 returns-in-Proper c =
-    let e = c.append_proper.ensures.settled ∙ sym (append-met c.args.st (lent c.args.table.now c.args.keys.now
-    c.args.lists.now) c.args.name.now c.args.bytes.now _ (whole (goal.at.returns-in-Proper
-    c).Else-not-is_whole_state) (proper (goal.at.returns-in-Proper c).In-Proper) refl) in record {
+    let w = whole (goal.at.returns-in-Proper c).Else-not-is_whole_state in
+    let k = proper (goal.at.returns-in-Proper c).In-Proper in
+    let e = c.append_proper.ensures.settled ∙ sym (append-met _ _ _ _ _ w k refl) in record {
       settled = e;
-      numbered = subst (λ (o : Out). permitted appending (said_appended o.answer) ≡ true) (sym e) (fair-append
-          c.args.st (lent c.args.table.now c.args.keys.now c.args.lists.now) c.args.name.now c.args.bytes.now).numbered;
-      walked = c.append_proper.ensures.walked ∙ sym (looked-walk c.args.st (lent c.args.table.now c.args.keys.now
-          c.args.lists.now) c.args.name.now (whole (goal.at.returns-in-Proper c).Else-not-is_whole_state) (proper
-          (goal.at.returns-in-Proper c).In-Proper));
+      numbered =
+          subst (λ (o : Out). permitted appending (said_appended o.answer) ≡ true) (sym e) (fair-append _ _ _ _).numbered;
+      walked = c.append_proper.ensures.walked ∙ sym (looked-walk _ _ _ w k);
     }

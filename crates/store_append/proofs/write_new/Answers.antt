@@ -9,7 +9,6 @@ use Rattle.store_append.proofs.Carried.{carried_on}
 use Rattle.store_state.proofs.Whole.{whole_facts}
 use Rattle.store_append.proofs.Growth.{Growable, growable, grown-stands}
 use Rattle.store_append.specs.Append.{moved_state}
-use Rattle.store_look.specs.Look.{lent}
 use Rattle.store_state.specs.State.{first_of}
 use Rattle.store_state.specs.declared.State.{State}
 use Rattle.expull_append.specs.Append.{writing, appended, good_tail, plan_of, is_some}
@@ -28,8 +27,7 @@ grow_ok c =
 pub extend_from_slice-list-requires : goal.extend_from_slice-list-requires
 extend_from_slice-list-requires c =
     let e : fresh ≡ c.fresh_header-h.result = sym c.fresh_header-h.ensures in (
-      (whole_facts c.args.st (length
-          c.args.table.now) (length c.args.keys.now) (length c.args.lists.now) c.requires.planned.whole).list_arena,
+      (whole_facts _ _ _ _ c.requires.planned.whole).list_arena,
       subst
           (λ (h : Header). (sound_header h 0 ≡ true) × ((good_tail c.args.st.list_arena h ≡ true) × (is_some (plan_of
           (length c.args.lists.now) c.args.st.list_arena h (length c.args.bytes.now)) ≡ true))) e
@@ -60,7 +58,7 @@ enter_new-requires c =
       buckets_nonzero = subst (λ (x : State). (0 < x.buckets) × ((x.buckets ≤ x.words / 2) × (x.words ≡
           length c.grow_table-grown.new.table))) e (k.0, (k.1.0, k.1.1 ∙ sym c.grow_table-grown.auto.table));
       last_empty =
-          carried_on c.args.st (lent c.args.table.now c.args.keys.now c.args.lists.now) c.args.name.now c.args.hash
+          carried_on _ _ _ c.args.hash
           c.args.looked (grow_ok (goal.at.enter_new-requires c).Start) c.requires.carried.1 c.requires.carried.0
           c.grow_table-grown.result c.grow_table-grown.new.table c.grow_table-grown.ensures.0 c.grow_table-grown.ensures.1;
     }
@@ -73,7 +71,7 @@ shape_of-lists c = c.extend_from_slice-list.auto.lists
 
 pub returns : goal.returns
 returns c =
-    new_done c.args.st (lent c.args.table.now c.args.keys.now c.args.lists.now) c.args.name.now c.args.bytes.now
+    new_done _ _ _ c.args.bytes.now
     c.args.room.at c.args.room.after _ (writing c.extend_from_slice-list.new.lists c.extend_from_slice-list.result.arena
     c.extend_from_slice-list.result.header) (c.extend_from_slice-list.ensures ∙ ap (λ (h : Header). appended
     c.args.bytes.now (writing c.args.lists.now c.args.st.list_arena h)) c.fresh_header-h.ensures)
