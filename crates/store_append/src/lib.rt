@@ -26,7 +26,6 @@ ghost use Rattle.store_append.specs.Append.{new_written, append_new, on_met, app
 
 use expull_header::Header;
 use memory_arena::{Arena, Room};
-use records::Head;
 use shared_arena_hashmap::Met;
 use store_state::{Name, State};
 
