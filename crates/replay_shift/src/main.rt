@@ -3,232 +3,157 @@
 //
 // A script's bytes stand in the input as hex: for each append name length (2 bytes, little-endian), name, byte length
 // (4), bytes. It promises only that it ends and stays in bounds; what a replay leaves, crate replay promises. The file
-// stdout has the answers of oracle/replay.py. It uses limits, numbers, memory_arena, store_state and store_create (for
-// the state), replay, text, say, script, bench_state, bench_areas, bench_read, and the kit's io.
+// stdout has the answers of oracle/replay.py. It uses limits, memory_arena and store_state (for the state), replay, text, say, script, bench_state, bench_areas, bench_lent and bench_read.
 #![tactic(auto)]
 
+use bench_areas::{Lent, Scratch};
+use bench_lent::Store;
 use limits::Refusal;
-use script::{lines, rows};
+use say::Unanswered;
+use script::lines::{Line, Lines};
+use script::rows;
+use std::io;
 use store_state::State;
-use text::{fault, words};
+use text::words;
 
-// The commands; those from 20 on are the testbench's.
-const TABLE: [u8; 79] = *b"1 script BYTES
-2 replay CAPACITY SEED [SIZE]
-22 read NAME ROOM
-30 state
-42 sum
-";
-
-// The store's state after the last replay, and how many bytes of the next script are gathered.
+// The commands; the last three are the testbench's.
 #[derive(Clone, Copy)]
+enum Command {
+    Script,
+    Replay,
+    Read,
+    State,
+    Sum,
+}
+
+const TABLE: [(Command, &str); 5] = [
+    (Command::Script, "script BYTES"),
+    (Command::Replay, "replay CAPACITY SEED [SIZE]"),
+    (Command::Read, "read NAME ROOM"),
+    (Command::State, "state"),
+    (Command::Sum, "sum"),
+];
+
+// The store as the last replay left it, and how many bytes of the next script are gathered.
+#[derive(Drop)]
 struct Shift {
-    st: State,
+    store: Store<64, 4096, 4096>,
+    script: [u8; 262144],
     gathered: usize,
+    scratch: Scratch,
 }
 
-// `script BYTES`: more of the next script.
-fn gather(s: Shift, line: &[u8], script: &mut [u8]) -> Shift {
-    let n = numbers::least(s.gathered, script.len());
-    let st = s.st;
-    let got = words::bytes(line, 1, &mut script[n..]);
-    if got.fault != 0 {
-        say::fault(got.fault);
-        return s;
-    }
-    let gathered = n + got.n;
-    say::number(b"script ", gathered as u64);
-    Shift { st, gathered }
-}
-
-// The state after a replay.
-fn say_replayed(made: Result<State, Refusal>, st: State) -> State {
+fn say_replayed(
+    made: Result<State, Refusal>,
+    state: &mut State,
+    out: &impl Print,
+) -> io::Result<()> {
     match made {
         Ok(played) => {
-            say::line(b"replayed");
-            played
+            *state = played;
+            println!(out; "replayed")
         }
-        Err(e) => {
-            say::refused(e.number());
-            st
-        }
+        Err(why) => say::refused(out, why.number()),
     }
 }
 
-// `replay CAPACITY SEED [SIZE]`: plays what is gathered.
-fn play_script(
-    s: Shift,
-    line: &[u8],
-    script: &[u8],
-    table: &mut [u32],
-    keys: &mut [u8],
-    lists: &mut [u8],
-) -> Shift {
-    let g = words::first_numbers(line, 2);
-    let size = words::number_or(line, 3, limits::PAGE_SIZE as u64);
-    let wide = fault::first(g.fault, words::beyond_32(g.b));
-    let fault = fault::first(wide, size.fault);
-    if fault != 0 {
-        say::fault(fault);
-        return s;
+impl Shift {
+    // `script BYTES`: more of the next script.
+    fn gather(&mut self, line: &[u8], out: &impl Print) -> Result<(), Unanswered> {
+        let from = self.gathered.min(self.script.len());
+        let script = &mut self.script[..];
+        let gathered = from + words::bytes_at(line, 1, &mut script[from..])?;
+        self.gathered = gathered;
+        Ok(println!(out; "script {gathered}")?)
     }
-    let n = numbers::least(s.gathered, script.len());
-    let st = s.st;
-    let made = replay::replay(
-        g.a as usize,
-        words::low_32(g.b),
-        size.value as usize,
-        table,
-        keys,
-        lists,
-        &script[0..n],
-    );
-    Shift {
-        st: say_replayed(made, st),
-        gathered: 0,
-    }
-}
 
-// What the store holds: nothing is changed.
-fn tell(
-    k: u64,
-    st: State,
-    line: &[u8],
-    table: &mut [u32],
-    keys: &mut [u8],
-    lists: &mut [u8],
-    name: &mut [u8],
-    output: &mut [u8],
-) {
-    match k {
-        22 => say_lane(k, st, line, table, keys, lists, name, output),
-        42 => bench_areas::play(k, st, line, table, keys, lists, name, output),
-        _ => say_state(k, st, line),
-    }
-}
-
-// A reading; the walk that it tells is passed over.
-fn say_lane(
-    k: u64,
-    st: State,
-    line: &[u8],
-    table: &[u32],
-    keys: &[u8],
-    lists: &[u8],
-    name: &mut [u8],
-    output: &mut [u8],
-) {
-    bench_read::play(k, 0, st, line, table, keys, lists, name, output);
-}
-
-fn say_state(k: u64, st: State, line: &[u8]) {
-    bench_state::play(k, st, line);
-}
-
-// A line that is a command.
-fn play(
-    k: u64,
-    s: Shift,
-    line: &[u8],
-    script: &mut [u8],
-    table: &mut [u32],
-    keys: &mut [u8],
-    lists: &mut [u8],
-    name: &mut [u8],
-    output: &mut [u8],
-) -> Shift {
-    if k == 1 {
-        return gather(s, line, script);
-    }
-    if k == 2 {
-        return play_script(s, line, script, table, keys, lists);
-    }
-    let st = s.st;
-    tell(k, st, line, table, keys, lists, name, output);
-    s
-}
-
-// A line of any kind.
-fn play_line(
-    s: Shift,
-    line: &[u8],
-    is_long: bool,
-    script: &mut [u8],
-    table: &mut [u32],
-    keys: &mut [u8],
-    lists: &mut [u8],
-    name: &mut [u8],
-    output: &mut [u8],
-) -> Shift {
-    let k = rows::number_of(&TABLE, line, is_long);
-    if k == 0 {
-        rows::say_fault(&TABLE, line, is_long);
-        return s;
-    }
-    play(k, s, line, script, table, keys, lists, name, output)
-}
-
-// Plays all of standard input.
-fn play_input(
-    chunk: &mut [u8],
-    line: &mut [u8],
-    script: &mut [u8],
-    table: &mut [u32],
-    keys: &mut [u8],
-    lists: &mut [u8],
-    name: &mut [u8],
-    output: &mut [u8],
-) {
-    let mut shift = Shift {
-        st: bench_state::zeros(),
-        gathered: 0,
-    };
-    let mut lines = lines::all();
-    while 0 < lines.left {
-        lines = lines::next(lines, chunk, line);
-        shift = play_line(
-            shift,
-            lines::held(lines, line),
-            lines.long,
-            script,
+    // `replay CAPACITY SEED [SIZE]`: plays what is gathered.
+    fn replay(&mut self, line: &[u8], out: &impl Print) -> Result<(), Unanswered> {
+        let [capacity, _] = words::numbers_at::<2>(line)?;
+        let seed = words::u32_at(line, 2)?;
+        let size = words::number_or(line, 3, limits::PAGE_SIZE as u64)?;
+        let gathered = self.gathered.min(self.script.len());
+        self.gathered = 0;
+        let script = &self.script[..gathered];
+        let Lent {
+            state,
             table,
             keys,
             lists,
-            name,
-            output,
+        } = self.store.lent();
+        let made = replay::replay(
+            capacity as usize,
+            seed,
+            size as usize,
+            table,
+            keys,
+            lists,
+            script,
         );
+        Ok(say_replayed(made, state, out)?)
+    }
+
+    fn play(&mut self, command: Command, line: &[u8], out: &impl Print) -> Result<(), Unanswered> {
+        match command {
+            Command::Script => self.gather(line, out),
+            Command::Replay => self.replay(line, out),
+            Command::Read => {
+                let lent = self.store.lent();
+                let command = bench_read::Command::Read;
+                bench_read::play(command, lent.seen(), line, &mut self.scratch, out).map(|_| ())
+            }
+            Command::State => {
+                let command = bench_state::Command::State;
+                bench_state::play(command, &mut self.store.state, line, out)
+            }
+            Command::Sum => {
+                let lent = &mut self.store.lent();
+                let command = bench_areas::Command::Sum;
+                bench_areas::play(command, lent, line, &mut self.scratch, out)
+            }
+        }
+    }
+
+    // A line of any kind.
+    fn play_line(&mut self, line: Line<'_>, out: &impl Print) -> Result<(), Unanswered> {
+        match rows::find(&TABLE, line)? {
+            Some(command) => self.play(command, line.bytes, out),
+            None => Ok(()),
+        }
     }
 }
 
-// The replays over their memory.
-fn run(
-    script: &mut [u8; 262144],
-    table: &mut [u32; 64],
-    keys: &mut [u8; 4096],
-    lists: &mut [u8; 4096],
-    name: &mut [u8; 262144],
-    output: &mut [u8; 1048576],
-) {
-    let mut chunk = io::large_buffer();
-    let mut line = io::large_buffer();
-    play_input(
-        &mut chunk, &mut line, script, table, keys, lists, name, output,
-    );
+// Plays all of standard input.
+fn run<R: Input + Print>(rt: &R, shift: &mut Shift, area: &mut [u8]) -> io::Result<()> {
+    let mut lines = Lines::new(rt.reader(), area);
+    for _ in 0..u64::MAX {
+        let Some(line) = lines.next() else {
+            break;
+        };
+        say::answered(rt, shift.play_line(line, rt))?;
+    }
+    Ok(())
 }
 
-fn main() {
-    let mut script = [0u8; 262144];
-    let mut table = [0xa5a5a5a5u32; 64];
-    let mut keys = [0xa5u8; 4096];
-    let mut lists = [0xa5u8; 4096];
-    let mut name = [0u8; 262144];
-    let mut output = [0u8; 1048576];
-    run(
-        &mut script,
-        &mut table,
-        &mut keys,
-        &mut lists,
-        &mut name,
-        &mut output,
-    );
+fn main(rt: HostRuntime) {
+    let mut shift = Shift {
+        store: Store {
+            state: bench_state::zeros(),
+            table: [0xa5a5a5a5; 64],
+            keys: [0xa5; 4096],
+            lists: [0xa5; 4096],
+            words: 64,
+            key_bytes: 4096,
+            list_bytes: 4096,
+        },
+        script: [0; 262144],
+        gathered: 0,
+        scratch: Scratch {
+            name: [0; 262144],
+            output: [0; 1048576],
+        },
+    };
+    let mut line = [0; 65536];
+    // where nothing can be printed, nobody is left to tell
+    let _ = run(&rt, &mut shift, &mut line);
 }
