@@ -32,7 +32,7 @@ use Rattle.store_look.proofs.Found.{next-on}
 use Rattle.store_state.proofs.Whole.{whole_facts, buckets_few}
 use Rattle.report_text.specs.Text.{Lane as TextLane, digits, decimal, total_of, lane_text, lanes_text}
 use Rattle.report_text.proofs.Values.{hex-length}
-use Rattle.std.specs.Prelude.{Some, None, Result, Ok, Err}
+use Rattle.std.specs.Prelude.{Some, None, Result, Ok, Err, IfOk}
 use Rattle.limits.specs.declared.Refusal.{Refusal}
 use Rattle.limits.specs.declared.Refusal.TheVariants.{Damage}
 use Rattle.report_lanes.specs.declared.MetLane.{MetLane}
@@ -40,7 +40,7 @@ use Rattle.report_lanes.specs.declared.Sums.{Sums}
 use Rattle.report_lanes.specs.Lanes.{Gathered, gathered, halted, lane_before, lane_at, on_listed, gather_from}
 use Rattle.report_lanes.specs.Lanes.{gather_all, stopped_by}
 use Rattle.report_lanes.specs.Measure.{Standing, on_answer, met_lane, met_of, some_lane, on_next_lane, next_lane_of, lane_size}
-use Rattle.report_lanes.specs.Measure.{sums, measured_of, SmallLane, Few}
+use Rattle.report_lanes.specs.Measure.{sums, measured_of, Small, Few}
 
 -- ---- the record at a place
 
@@ -75,14 +75,14 @@ module _ (st : State) (m : Lent) (i at : ℕ) where
     pub met_bad : (k : Refusal) → Err k ≡ on_answer r → Err k ≡ met_of st m i at
     met_bad k p = ap (met_with i at (key_length m.keys at)) p ∙ met_is r o e
 
-  pub met-small : i < st.buckets → key_length m.keys at < 65536 → SmallLane st.buckets (met_of st m i at)
+  pub met-small : i < st.buckets → key_length m.keys at < 65536 → IfOk (met_of st m i at) (Small st.buckets)
   unfolding met_of blocks_sound
   met-small h k = go (header_sound m.keys at) refl
       (good_blocks st.list_arena m.lists (header_of m.keys at).head (block_count (header_of m.keys at)))
     where
       go : (a : Bool) → header_sound m.keys at ≡ a → (b : Bool)
-          → SmallLane st.buckets (cond (a && b) (Ok (met_lane i at (key_length m.keys at) (lane_length (header_of m.keys at))))
-          (Err Damage))
+          → IfOk (cond (a && b) (Ok (met_lane i at (key_length m.keys at) (lane_length (header_of m.keys at))))
+          (Err Damage)) (Small st.buckets)
       go true e true = (
         h,
         k,
@@ -388,7 +388,7 @@ none_more st m index ls g = cc
 -- ---- the sums are few
 
 pub few_sums : {st : State} {m : Lent} {left index lanes bytes text : ℕ} → Measuring st m left index lanes bytes text
-    → checked st m ≡ true → Few (Ok (sums lanes bytes text))
+    → checked st m ≡ true → Few (sums lanes bytes text)
 few_sums M c = let f = measuring-few M c in (omega arith, omega (arith, M.bytes_le), omega (arith, M.text_le))
 
 -- a lane that is no damage has no more bytes than a header can tell

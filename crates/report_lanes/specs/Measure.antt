@@ -59,19 +59,12 @@ measured_of (gathered ls) = Ok (sums (length ls) (total_of ls) (length (lanes_te
 measured_of (halted k) = Err k
 
 -- what is known of the numbers of a lane that was met
-abbrev pub SmallLane : ℕ → Result MetLane Refusal → Type 0
-SmallLane b (Ok a) = (a.bucket < b) × (a.name < 65536) × (a.bytes ≤ 4587094008)
-SmallLane b (Err k) = Unit {0}
-
-abbrev pub Small : ℕ → Result (Option MetLane) Refusal → Type 0
-Small b (Ok (Some a)) = (a.bucket < b) × (a.name < 65536) × (a.bytes ≤ 4587094008)
-Small b (Ok None) = Unit {0}
-Small b (Err k) = Unit {0}
+abbrev pub Small : ℕ → MetLane → Type 0
+Small b a = (a.bucket < b) × (a.name < 65536) × (a.bytes ≤ 4587094008)
 
 -- decimals hold the sums
-abbrev pub Few : Result Sums Refusal → Type 0
-Few (Ok s) = (s.lanes < 10 ^ 18) × (s.bytes < 10 ^ 18) × (s.text < 10 ^ 18)
-Few (Err k) = Unit {0}
+abbrev pub Few : Sums → Type 0
+Few s = (s.lanes < 10 ^ 18) × (s.bytes < 10 ^ 18) × (s.text < 10 ^ 18)
 
 -- what a reading into no output at all tells of a lane: its length, with 8 or as a reading; or damage
 abbrev pub on_outcome : Outcome → Result ℕ Refusal

@@ -6,13 +6,13 @@
 // listing and its reading through a record.
 #![tactic(auto)]
 
-ghost use Rattle.std.specs.Prelude.{◌≡◌, true, ◌+◌, ◌≤◌, ◌<◌, length};
+ghost use Rattle.std.specs.Prelude.{◌≡◌, true, ◌+◌, ◌≤◌, ◌<◌, length, IfOk, IfSome};
 ghost use Rattle.memory_arena.specs.Calls.{sensible};
 ghost use Rattle.records.specs.Record.{value_place};
 ghost use Rattle.store_look.specs.Look.{lent, checked};
 ghost use Rattle.report_lanes.specs.Lanes.{gather_all, stopped_by};
 ghost use Rattle.report_lanes.specs.Measure.{on_answer, met_of, next_lane_of, lane_size, measured_of};
-ghost use Rattle.report_lanes.specs.Measure.{SmallLane, Small, Few};
+ghost use Rattle.report_lanes.specs.Measure.{Small, Few};
 
 use limits::Refusal;
 use store_look::{Answer, Listed, Outcome};
@@ -60,7 +60,7 @@ fn meet(
     requires { (sensible st.list_arena (length lists.now) ≡ true)
         × ((bucket < st.buckets) × ((at + 2 ≤ length keys.now) × (value_place keys.now at + 16 ≤ length keys.now))) }
     ensures { (result ≡ met_of st (lent table.now keys.now lists.now) bucket at)
-        × SmallLane st.buckets result }
+        × IfOk result (Small st.buckets) }
 {
     let answer = store_look::lane::read_at(st, table, keys, lists, at, &mut []);
     let bytes = length_told(answer)?;
@@ -94,7 +94,7 @@ pub fn next_lane(
 ) -> Result<Option<MetLane>, Refusal>
     requires { checked st (lent table.now keys.now lists.now) ≡ true }
     ensures { (result ≡ next_lane_of st (lent table.now keys.now lists.now) index)
-        × Small st.buckets result }
+        × IfOk result (λ next. IfSome next (Small st.buckets)) }
 {
     match store_look::listing::next_occupied(st, table, keys, lists, index) {
         Listed::Bucket(i, at) => Ok(Some(meet(st, table, keys, lists, i, at)?)),
@@ -115,7 +115,7 @@ pub fn lane_size(name: u64, n: u64) -> u64
 pub fn measure(st: State, table: &[u32], keys: &[u8], lists: &[u8]) -> Result<Sums, Refusal>
     requires { checked st (lent table.now keys.now lists.now) ≡ true }
     ensures { (result ≡ measured_of
-        (gather_all st (lent table.now keys.now lists.now))) × Few result }
+        (gather_all st (lent table.now keys.now lists.now))) × IfOk result Few }
 {
     let mut index = 0;
     let mut sums = Sums {

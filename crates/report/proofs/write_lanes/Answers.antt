@@ -3,7 +3,7 @@ use Prim.Native.Nat.{ℕ, ◌-◌}
 use mathlib.Core.Path.{◌≡◌, sym, ap, ◌∙◌, subst}
 use native.Mathlib.Omega.{arith}
 use native.Mathlib.Nat.{sub-zero}
-use Rattle.std.specs.Prelude.{Ok}
+use Rattle.std.specs.Prelude.{Ok, IfSome}
 use Rattle.store_look.specs.Look.{lent}
 use Rattle.report_lanes.specs.Lanes.{gather_from}
 use Rattle.report_lanes.specs.Measure.{Small}
@@ -18,7 +18,7 @@ loop-init c =
 
 pub write_lane-p-requires : goal.write_lane-p-requires
 write_lane-p-requires c =
-    let q = subst (λ o. Small c.args.st.buckets (Ok o)) c.in-Ok-Some.field-0-is c.in-Ok-Some.ensures.1 in
+    let q = subst (λ o. IfSome o (Small c.args.st.buckets)) c.in-Ok-Some.field-0-is c.in-Ok-Some.ensures.1 in
     let e = sym c.in-Ok-Some.ensures.0 ∙ ap Ok c.in-Ok-Some.field-0-is in
     let S = lane-stands c.loop.invariant c.requires.whole (omega arith) _ e in
     let room = lane_room c.loop.invariant c.requires.whole (omega arith) _ e in

@@ -1,6 +1,6 @@
 -- `report_lanes::measure` meets its contract. Assumes nothing.
 use mathlib.Core.Path.{sym, ap, ◌∙◌, subst}
-use Rattle.std.specs.Prelude.{Ok}
+use Rattle.std.specs.Prelude.{Ok, IfSome}
 use Rattle.report_lanes.specs.Measure.{Small}
 use native.Mathlib.Omega.{arith}
 use native.Mathlib.Nat.{sub-zero}
@@ -27,7 +27,7 @@ returns-in_default c = (
 
 pub overflow_add-sums-in-loop : goal.overflow_add-sums-in-loop
 overflow_add-sums-in-loop c =
-    let q = subst (λ o. Small c.args.st.buckets (Ok o)) c.in-Some.is c.in_ok-lane.ensures.1 in
+    let q = subst (λ o. IfSome o (Small c.args.st.buckets)) c.in-Some.is c.in_ok-lane.ensures.1 in
     omega (arith, q.2, c.loop.invariant.bytes_le, measuring-few c.loop.invariant c.requires)
 
 pub overflow_add-sums-in-loop-2 : goal.overflow_add-sums-in-loop-2
@@ -41,7 +41,7 @@ overflow_add-sums-in-loop-2 c =
 
 pub loop-preserved : goal.loop-preserved
 loop-preserved c =
-    let q = subst (λ o. Small c.args.st.buckets (Ok o)) c.in-Some.is c.in_ok-lane.ensures.1 in
+    let q = subst (λ o. IfSome o (Small c.args.st.buckets)) c.in-Some.is c.in_ok-lane.ensures.1 in
     measuring-on c.loop.invariant c.requires (omega arith) _ _ (sym c.in_ok-lane.ensures.0 ∙ ap Ok c.in-Some.is) q.2
     c.lane_size-size.ensures.0 c.lane_size-size.ensures.1 _ (omega arith)
 

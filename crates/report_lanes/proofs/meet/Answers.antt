@@ -1,10 +1,10 @@
 -- `report_lanes::meet` meets its contract. Assumes nothing.
 use mathlib.Core.Path.{◌≡◌, sym, ap, ◌∙◌, subst}
 use native.Mathlib.Omega.{arith}
-use Rattle.std.specs.Prelude.{Ok}
+use Rattle.std.specs.Prelude.{Ok, IfOk}
 use Rattle.std.proofs.lemmas.Result.{err_from_is_err_and}
 use Rattle.store_look.specs.Look.{lent}
-use Rattle.report_lanes.specs.Measure.{met_lane, met_of, SmallLane}
+use Rattle.report_lanes.specs.Measure.{met_lane, met_of, Small}
 use Rattle.report_lanes.proofs.Measuring.{met_good, met_bad, met-small}
 use Rattle.report_lanes.proofs.meet.Goals as goal
 
@@ -22,6 +22,6 @@ returns c =
     ap (λ n. Ok (met_lane c.args.bucket c.args.at n c.in_ok-bytes.bytes)) c.key_length-name.ensures.0
     ∙ met_good c.args.st m c.args.bucket c.args.at _ _ c.read_at-answer.ensures _ c.in_ok-bytes.ensures in (
       e,
-      subst (SmallLane c.args.st.buckets) (sym e) (met-small c.args.st m c.args.bucket c.args.at c.requires.1.0
+      subst (λ r. IfOk r (Small c.args.st.buckets)) (sym e) (met-small c.args.st m c.args.bucket c.args.at c.requires.1.0
           (omega (arith, c.key_length-name.ensures.0, c.key_length-name.ensures.1))),
     )
