@@ -3,7 +3,8 @@
 //
 // A script's bytes stand in the input as hex: for each append name length (2 bytes, little-endian), name, byte length
 // (4), bytes. It promises only that it ends and stays in bounds; what a replay leaves, crate replay promises. The file
-// stdout has the answers of oracle/replay.py. It uses limits, memory_arena and store_state (for the state), replay, text, say, script, bench_state, bench_areas, bench_lent and bench_read.
+// stdout has the answers of oracle/replay.py. It uses limits, memory_arena and store_state (for the state), replay,
+// text, say, script, bench_state, bench_areas, bench_lent and bench_read.
 #![tactic(auto)]
 
 use bench_areas::{Lent, Scratch};
