@@ -1,4 +1,4 @@
--- RULES AA8. The values of a line as the code answers them.
+-- RULES AA8. The tests that the values of a line pass.
 use Rattle.std.specs.Prelude.{ℕ, ◌%◌, Bool, true, false, cond, List, [], ◌∷◌, leb, eqb, length, take}
 use Rattle.fastcmp.specs.Equal.{equal_bytes}
 use Rattle.report_text.specs.Reader.{is_hex}
