@@ -15,7 +15,8 @@ ghost use Rattle.shared_arena_hashmap.specs.Probe.{seen_record, seen_at, start_o
 
 use memory_arena::Arena;
 
-// What a bucket is to a lookup: empty, the name's own with its record's place, a broken record, or another's.
+// What a bucket is to a lookup: empty, the name's own with its record's place, a broken record, or another's. Four ends
+// side by side: a Result of an Option would nest them and say them no plainer.
 #[derive(Clone, Copy)]
 pub enum Seen {
     Nothing,
@@ -24,7 +25,8 @@ pub enum Seen {
     Other,
 }
 
-// What a lookup met at its end: an empty bucket, the name's record, damage, or nothing in a whole lap.
+// What a lookup met at its end: an empty bucket, the name's record, damage, or nothing in a whole lap. Four ends side by
+// side, as above.
 #[derive(Clone, Copy)]
 pub enum Met {
     Empty,

@@ -16,7 +16,8 @@ ghost use Rattle.store_look.specs.Look.{lent, checked, walk_of};
 use shared_arena_hashmap::Walk;
 use store_state::State;
 
-// A lookup's answer: either the record's place or the plain word absent, never both.
+// A lookup's answer: either the record's place or the plain word absent, never both. The form is document 01's ("The
+// shape of some places").
 #[derive(Clone, Copy)]
 pub enum Lookup {
     At(u32),
@@ -33,7 +34,8 @@ pub enum Outcome {
     NoSuchBlock,
 }
 
-// An answer by name: absent, found with the list's outcome inside it, or refused with a number and what it tells.
+// An answer by name: absent, found with the list's outcome inside it, or refused with a number and what it tells. The
+// form is document 01's ("The shape of some places"), and so is the outcome's.
 #[derive(Clone, Copy)]
 pub enum Answer {
     Absent,
