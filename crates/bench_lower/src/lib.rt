@@ -9,10 +9,11 @@
 ghost use Rattle.std.specs.Prelude.{◌≤◌, length};
 
 use fastcpy::Copied;
+use limits::Refusal;
 use memory_arena::{Allocated, Arena, Touched};
 use text::words::{Number, Taken};
 use text::{fault, words};
-use vint::Unvint;
+use vint::Read;
 
 fn say_hash(bytes: &[u8], seed: u32) {
     say::number(b"hash ", murmurhash2::murmurhash2(bytes, seed) as u64)
@@ -31,12 +32,6 @@ fn hash(line: &[u8], name: &mut [u8]) {
     say_hash(&name[0..n], words::low_32(seed.value))
 }
 
-fn say_front(bytes: &[u8], n: usize) {
-    if n <= bytes.len() {
-        say::bytes_line(&bytes[0..n]);
-    }
-}
-
 // `vint N`
 fn vint(line: &[u8]) {
     let n = words::number_at(line, 1);
@@ -45,19 +40,17 @@ fn vint(line: &[u8]) {
         return say::fault(fault);
     }
     let v = vint::serialize_vint_u32(words::low_32(n.value));
-    let bytes = v.bytes;
-    let count = v.count;
     say::text(b"vint ");
-    say_front(&bytes, count);
+    say::bytes_line(v.as_slice());
 }
 
-fn say_unvint(u: Unvint) {
-    match u {
-        Unvint::Number(n, taken) => {
-            say::told(b"number ", n as u64);
-            say::number(b" taken ", taken as u64)
+fn say_unvint(read: Result<Read, Refusal>) {
+    match read {
+        Ok(r) => {
+            say::told(b"number ", r.number as u64);
+            say::number(b" taken ", r.taken as u64)
         }
-        Unvint::Refused(n) => say::refused(n),
+        Err(r) => say::refused(r.number()),
     }
 }
 

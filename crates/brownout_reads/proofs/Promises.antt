@@ -11,6 +11,8 @@ use lib.ListN.{length, replicate, length-replicate}
 use lib.IntN.{ℤ}
 use borrow.Author.Tests.{le-leb, lt-leb, leb-true, leb-false}
 use Rattle.limits.specs.Refusals.{unvinting, refusal_numbers, is_among, number_in}
+use Rattle.limits.specs.declared.Refusal.{Refusal}
+use Rattle.std.specs.Prelude.{Option, Some, None}
 use Rattle.numbers.proofs.Tests.{both}
 use Rattle.expull_header.specs.Header.{lane_length, block_count}
 use Rattle.expull_walk.specs.Blocks.{lane_bytes, good_blocks}
@@ -23,9 +25,9 @@ use Rattle.store_look.specs.Said.{said_lookup}
 use Rattle.records.specs.Record.{header_of, header_sound}
 use Rattle.store_look.specs.Look.{Lent, lookup_of, blocks_sound, read_at, read_of}
 use Rattle.reading_run.specs.Readings.{Split, vints_of, readings_in}
-use Rattle.reading_run.proofs.Split.{refusals_listed}
+use Rattle.reading_run.proofs.Split.{refusals_listed, Listed}
 use Rattle.readings.specs.declared.Recalled.TheVariants.{Readings, Refused as NotRecalled}
-use Rattle.readings.specs.Readings.{out as recalled, at_front, on_split, readings_at, readings_of}
+use Rattle.readings.specs.Readings.{out as recalled, at_front, on_ended, on_split, readings_at, readings_of}
 use Rattle.readings.specs.Said.{said_recalled}
 use Rattle.lane_pieces.specs.declared.Pieced.{Pieced}
 use Rattle.lane_pieces.specs.declared.Pieced.TheVariants.{Given, Refused as NotGiven}
@@ -118,23 +120,18 @@ module _ (st : State) (m : Lent) (N : NoDamage st m) where
 
   split_never : (bs : List ℕ) (output : List ℤ) → number_in (said_recalled (on_split (vints_of bs) output).answer) ≢ 4
   unfolding on_split
-  split_never bs output = go (leb (length s.numbers) (length output)) (eqb s.refusal 0) refl
+  split_never bs output = go (leb (length s.numbers) (length output)) s.refusal (refusals_listed bs)
     where
       s : Split
       s = vints_of bs
 
-      unlisted : s.refusal ≡ 4 → ⊥
-      unlisted e =
-          false≢true (subst (λ (k : ℕ). is_among k (0 ∷ refusal_numbers unvinting) ≡ true) e (refusals_listed bs))
-
-      go : (b c : Bool) → eqb s.refusal 0 ≡ c
-          → number_in (said_recalled (cond b
-          (cond c (recalled (Readings (length s.numbers)) (at_front (readings_in s) output))
-          (recalled (NotRecalled s.refusal (length s.numbers)) output))
+      go : (b : Bool) (c : Option Refusal) → Listed c
+          → number_in (said_recalled (cond b (on_ended c s output)
           (recalled (NotRecalled 8 (length s.numbers)) output)).answer) ≢ 4
-      go true true p z = omega (arith, z)
-      go true false p z = unlisted z
-      go false c p z = omega (arith, z)
+      go true None e z = omega (arith, z)
+      go true (Some r) e z =
+          false≢true (subst (λ (k : ℕ). is_among k (refusal_numbers unvinting) ≡ true) z e)
+      go false c e z = omega (arith, z)
 
   readings_answers : (name : List ℕ) (output : List ℤ)
       → number_in (said_recalled (readings_of st m name output).answer) ≢ 4

@@ -10,16 +10,18 @@ use lib.Dec.{leb, ltb, eqb}
 use lib.ListN.{length}
 use lib.IntN.{ℤ, pos}
 use borrow.Author.Tests.{le-leb, lt-leb, ltb-true, ltb-false}
-use Rattle.limits.specs.Refusals.{unvinting, refusal_numbers, is_among, number_in}
+use Rattle.limits.specs.Refusals.{unvinting, refusal_numbers, is_among, number_in, number_of}
+use Rattle.limits.specs.declared.Refusal.{Refusal}
+use Rattle.std.specs.Prelude.{Option as Maybe, Some, None}
 use Rattle.expull_walk.specs.Blocks.{lane_bytes}
 use Rattle.store_state.specs.Name.{name_limit_of}
 use Rattle.records.specs.Record.{header_of}
 use Rattle.store_look.specs.Look.{blocks_sound}
 use Rattle.reading_run.specs.Readings.{readings_bytes, AllSigned, Split, split, vints_of, readings_in}
 use Rattle.reading_run.proofs.Back.{stored_from, written_splits, stored_readings, stored_count}
-use Rattle.reading_run.proofs.Split.{among-behind, refusals_listed}
+use Rattle.reading_run.proofs.Split.{among-behind, refusals_listed, Listed}
 use Rattle.readings.specs.declared.Recalled.TheVariants.{Readings, Refused}
-use Rattle.readings.specs.Readings.{Out, out, at_front, on_split, readings_at}
+use Rattle.readings.specs.Readings.{Out, out, at_front, on_ended, on_split, readings_at}
 use Rattle.readings.specs.Said.{said_recalled}
 use Rattle.readings.proofs.Found.{readings_at_lem, readings_none, readings_failed}
 use Rattle.readings.proofs.Fronts.{reading_is}
@@ -49,7 +51,7 @@ reads_by w name (some bs) R output =
 -- ---- one that holds readings
 
 module _ (rs : List ℤ) (a : AllSigned rs) (output : List ℤ) where
-  splits : vints_of (readings_bytes (pos 0) rs) ≡ split (stored_from (pos 0) rs) 0
+  splits : vints_of (readings_bytes (pos 0) rs) ≡ split (stored_from (pos 0) rs) None
   splits = written_splits (pos 0) rs
 
   counts : length (stored_from (pos 0) rs) ≡ length rs
@@ -89,19 +91,17 @@ possible = 0 ∷ 8 ∷ refusal_numbers unvinting
 split_number : (bs : List ℕ) (output : List ℤ)
     → is_among (number_in (said_recalled (on_split (vints_of bs) output).answer)) possible ≡ true
 unfolding on_split
-split_number bs output = go (leb (length s.numbers) (length output)) (eqb s.refusal 0) refl (refusals_listed bs)
+split_number bs output = go (leb (length s.numbers) (length output)) s.refusal (refusals_listed bs)
   where
     s : Split
     s = vints_of bs
 
-    go : (b c : Bool) → eqb s.refusal 0 ≡ c → (c || is_among s.refusal (refusal_numbers unvinting)) ≡ true
-        → is_among (number_in (said_recalled (cond b
-        (cond c (out (Readings (length s.numbers)) (at_front (readings_in s) output))
-        (out (Refused s.refusal (length s.numbers)) output)) (out (Refused 8 (length s.numbers)) output)
-        ).answer)) possible ≡ true
-    go true true p e = refl
-    go true false p e = among-behind s.refusal (0 ∷ 8 ∷ []) (refusal_numbers unvinting) e
-    go false c p e = refl
+    go : (b : Bool) (c : Maybe Refusal) → Listed c
+        → is_among (number_in (said_recalled (cond b (on_ended c s output)
+        (out (Refused 8 (length s.numbers)) output)).answer)) possible ≡ true
+    go true None e = refl
+    go true (Some r) e = among-behind (number_of r) (0 ∷ 8 ∷ []) (refusal_numbers unvinting) e
+    go false c e = refl
 
 number_known : (o : Option (List ℕ)) (output : List ℤ)
     → is_among (number_in (said_recalled (recalled_by o output).answer)) possible ≡ true

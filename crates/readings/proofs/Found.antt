@@ -10,7 +10,9 @@ use lib.IntN.{ℤ}
 use borrow.Author.Tests.{le-leb, lt-leb, eq-eqb, ne_eqb}
 use types.Run.{OneOf, miss}
 use denote.Enum.Declared.{tag_of}
-use Rattle.limits.specs.Refusals.{looking_up, reading_readings, unvinting, refusal_numbers, is_among, permitted}
+use Rattle.limits.specs.Refusals.{looking_up, reading_readings, unvinting, refusal_numbers, is_among, permitted, number_of}
+use Rattle.limits.specs.declared.Refusal.{Refusal}
+use Rattle.std.specs.Prelude.{Option, Some, None}
 use Rattle.expull_header.specs.declared.Header.{Header}
 use Rattle.expull_header.specs.Header.{block_count}
 use Rattle.expull_walk.specs.Blocks.{good_blocks, lane_bytes}
@@ -24,9 +26,9 @@ use Rattle.store_look.specs.contracts.Lookup.{the_type}
 use Rattle.store_look.proofs.Fair.{fair-lookup}
 use Rattle.records.proofs.Laws.{Headed}
 use Rattle.reading_run.specs.Readings.{Split, vints_of, readings_in}
-use Rattle.reading_run.proofs.Split.{among-front, among-behind, refusals_listed}
+use Rattle.reading_run.proofs.Split.{among-front, among-behind, refusals_listed, Listed}
 use Rattle.readings.specs.declared.Recalled.TheVariants.{Readings, Absent, Refused}
-use Rattle.readings.specs.Readings.{Out, out, at_front, on_split, readings_at, not_found, on_lookup, readings_of}
+use Rattle.readings.specs.Readings.{Out, out, at_front, on_ended, on_split, readings_at, not_found, on_lookup, readings_of}
 use Rattle.readings.specs.Said.{said_recalled}
 
 -- ---- a standing lane
@@ -61,17 +63,16 @@ module _ (st : State) (m : Lent) (at : ℕ) (output : List ℤ) where
       unfolding on_split
       readings_8 l = readings_on ∙ rw (lt-leb (length S.numbers) (length output) l)
 
-      pub readings_bad : length S.numbers ≤ length output → (S.refusal ≡ 0 → ⊥)
-          → readings_at st m at output ≡ out (Refused S.refusal (length S.numbers)) output
+      pub readings_bad : length S.numbers ≤ length output → (r : Refusal) → S.refusal ≡ Some r
+          → readings_at st m at output ≡ out (Refused (number_of r) (length S.numbers)) output
       unfolding on_split
-      readings_bad l z =
-          readings_on ∙ rw (le-leb (length S.numbers) (length output) l, ne_eqb S.refusal 0 z)
+      readings_bad l r z = readings_on ∙ rw (le-leb (length S.numbers) (length output) l, z)
 
-      pub readings_done : length S.numbers ≤ length output → S.refusal ≡ 0
+      pub readings_done : length S.numbers ≤ length output → S.refusal ≡ None
           → readings_at st m at output ≡ out (Readings (length S.numbers)) (at_front (readings_in S) output)
       unfolding on_split
       readings_done l z =
-          readings_on ∙ rw (le-leb (length S.numbers) (length output) l, eq-eqb S.refusal 0 z)
+          readings_on ∙ rw (le-leb (length S.numbers) (length output) l, z)
 
 -- ---- by name
 
@@ -132,16 +133,15 @@ of_reader n e = among-behind n (2 ∷ 3 ∷ 4 ∷ 8 ∷ []) (refusal_numbers unv
 
 fair-split : (bs : List ℕ) (output : List ℤ) → Fair output (on_split (vints_of bs) output)
 unfolding on_split
-fair-split bs output = go (leb (length s.numbers) (length output)) (eqb s.refusal 0) (refusals_listed bs)
+fair-split bs output = go (leb (length s.numbers) (length output)) s.refusal (refusals_listed bs)
   where
     s : Split
     s = vints_of bs
 
-    go : (b c : Bool) → (c || is_among s.refusal (refusal_numbers unvinting)) ≡ true
-        → Fair output (cond b (cond c (out (Readings (length s.numbers)) (at_front (readings_in s) output))
-        (out (Refused s.refusal (length s.numbers)) output)) (out (Refused 8 (length s.numbers)) output))
-    go true true e = fair_given output _ _
-    go true false e = fair_refused output _ _ (of_reader s.refusal e)
+    go : (b : Bool) (c : Option Refusal) → Listed c
+        → Fair output (cond b (on_ended c s output) (out (Refused 8 (length s.numbers)) output))
+    go true None e = fair_given output _ _
+    go true (Some r) e = fair_refused output _ _ (of_reader (number_of r) e)
     go false c e = fair_refused output 8 _ refl
 
 fair-at : (st : State) (m : Lent) (at : ℕ) (output : List ℤ) → Fair output (readings_at st m at output)

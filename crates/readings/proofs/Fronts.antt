@@ -7,7 +7,7 @@ use lib.ListN.{length, take, replicate, length-append}
 use lib.IntN.{ℤ}
 use Rattle.limits.specs.Limits.{vint_limit}
 use Rattle.limits.specs.Refusals.{Said, answered, refused, appending, appending_reading, permitted}
-use Rattle.vint.specs.declared.Vint.{Vint}
+use Rattle.vint.specs.declared.written.Vint.{Vint}
 use Rattle.vint.specs.Vint.{write_vint, vint_of}
 use Rattle.store_state.specs.declared.State.{State}
 use Rattle.store_look.specs.Look.{Lent}

@@ -57,7 +57,6 @@ module _ (m : List ℕ) (h : Header) (o : List ℤ) (s : Run) (e : s ≡ begun) 
 -- what take_bytes asks of n bytes at a place
 pub record Ready (m : List ℕ) (s : Run) (place n : ℕ) : Type 0 where
   pub in_memory : place + n ≤ length m
-  pub places : length s.held ≡ vint_limit
   pub few : s.count < vint_limit
   pub room : s.readings + length (take (place + n - place) (drop place m)) < 2 ^ 40
 
@@ -89,7 +88,6 @@ module _ {a : Arena} {m : List ℕ} {h : Header} {o₀ : List ℤ} {s : Run} {o 
   unfolding read_span
   ready n l r = record {
     in_memory = l;
-    places = kept.places;
     few = kept.few;
     room = omega (
       arith,

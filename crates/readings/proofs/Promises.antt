@@ -1,6 +1,6 @@
 -- The promises of the two calls, one value. Assumes nothing.
 use Prim.Native.Nat.{ℕ, ◌≤◌}
-use mathlib.Core.Path.{◌≡◌, subst}
+use mathlib.Core.Path.{◌≡◌, refl, subst}
 use mathlib.Core.Logic.{◌≢◌}
 use mathlib.Core.Bool.{Bool, true, false, cond, false≢true}
 use mathlib.Core.List.{List, ◌∷◌}
@@ -10,6 +10,9 @@ use lib.ListN.{length}
 use lib.IntN.{ℤ}
 use borrow.Author.Tests.{le-leb}
 use Rattle.limits.specs.Refusals.{looking_up, unvinting, refusal_numbers, is_among, permitted, number_in, one-outcome}
+use Rattle.limits.specs.Refusals.{number_of as refusal_number}
+use Rattle.limits.specs.declared.Refusal.{Refusal}
+use Rattle.std.specs.Prelude.{Option, Some, None}
 use Rattle.expull_walk.specs.Blocks.{lane_bytes}
 use Rattle.store_state.specs.declared.State.{State}
 use Rattle.store_append.specs.declared.Appended.TheVariants.{Declined}
@@ -22,9 +25,9 @@ use Rattle.store_append.specs.Append.{declined}
 use Rattle.store_look.proofs.Fair.{fair-lookup}
 use Rattle.store.proofs.Promises.{promises as store-promises}
 use Rattle.reading_run.specs.Readings.{reading_bytes, Split, vints_of, readings_in}
-use Rattle.reading_run.proofs.Split.{refusals_listed}
+use Rattle.reading_run.proofs.Split.{refusals_listed, Listed}
 use Rattle.readings.specs.declared.Recalled.TheVariants.{Readings, Refused}
-use Rattle.readings.specs.Readings.{Out, out, at_front, on_split, readings_at, on_lookup, readings_of, append_reading_of}
+use Rattle.readings.specs.Readings.{Out, out, at_front, on_ended, on_split, readings_at, on_lookup, readings_of, append_reading_of}
 use Rattle.readings.specs.Said.{said_recalled}
 use Rattle.readings.specs.Promises.{Promises}
 use Rattle.readings.proofs.Found.{fair_readings}
@@ -42,36 +45,33 @@ abbrev number_of : Out → ℕ
 number_of o = number_in (said_recalled o.answer)
 
 -- the reader's numbers don't have 8
-not_8 : (bs : List ℕ) → (vints_of bs).refusal ≢ 8
-not_8 bs e =
-    false≢true (subst (λ (n : ℕ). is_among n (0 ∷ refusal_numbers unvinting) ≡ true) e (refusals_listed bs))
+not_8 : (bs : List ℕ) (r : Refusal) → (vints_of bs).refusal ≡ Some r → refusal_number r ≢ 8
+not_8 bs r e z =
+    false≢true (subst (λ (n : ℕ). is_among n (refusal_numbers unvinting) ≡ true) z (subst Listed e (refusals_listed bs)))
 
 -- by what the bytes split into
-split_enough : (s : Split) → s.refusal ≢ 8 → (short output : List ℤ) (count : ℕ)
+split_enough : (s : Split) → ((r : Refusal) → s.refusal ≡ Some r → refusal_number r ≢ 8) → (short output : List ℤ) (count : ℕ)
     → (on_split s short).answer ≡ Refused 8 count → count ≤ length output → number_of (on_split s output) ≢ 8
 unfolding on_split
 split_enough s f short output count =
-    go (leb (length s.numbers) (length short)) (eqb s.refusal 0)
+    go (leb (length s.numbers) (length short)) s.refusal refl
   where
     n : ℕ
     n = length s.numbers
 
-    fits : (c : Bool) → number_of (cond c (out (Readings n) (at_front (readings_in s) output))
-        (out (Refused s.refusal n) output)) ≢ 8
-    fits true e = omega (arith, e)
-    fits false e = f e
+    fits : (c : Option Refusal) → s.refusal ≡ c → number_of (on_ended c s output) ≢ 8
+    fits None q e = omega (arith, e)
+    fits (Some r) q e = f r q e
 
-    go : (b c : Bool)
-        → (cond b (cond c (out (Readings n) (at_front (readings_in s) short)) (out (Refused s.refusal n) short))
-        (out (Refused 8 n) short)).answer ≡ Refused 8 count
+    go : (b : Bool) (c : Option Refusal) → s.refusal ≡ c
+        → (cond b (on_ended c s short) (out (Refused 8 n) short)).answer ≡ Refused 8 count
         → count ≤ length output
-        → number_of (cond (leb n (length output)) (cond c (out (Readings n) (at_front (readings_in s) output))
-        (out (Refused s.refusal n) output)) (out (Refused 8 n) output)) ≢ 8
-    go true true e l = let z : ◌≡◌ {A = ℕ} 0 1 = cc in absurd (omega arith)
-    go true false e l = let z : s.refusal ≡ 8 = cc in absurd (f z)
-    go false c e l =
+        → number_of (cond (leb n (length output)) (on_ended c s output) (out (Refused 8 n) output)) ≢ 8
+    go true None q e l = cc
+    go true (Some r) q e l = let z : refusal_number r ≡ 8 = cc in absurd (f r q z)
+    go false c q e l =
         let z : n ≡ count = cc in
-        rw (le-leb n (length output) (omega arith)) (fits c)
+        rw (le-leb n (length output) (omega arith)) (fits c q)
 
 at_enough : (st : State) (m : Lent) (at : ℕ) (short output : List ℤ) (count : ℕ)
     → (readings_at st m at short).answer ≡ Refused 8 count → count ≤ length output

@@ -2,7 +2,9 @@
 -- as a reading of bytes does; then "fewer output places than whole readings up to there, or to the end, is refusal 8";
 -- then "bytes in the lane that don't split into whole vints are refusal 11 with the count read so far". A refusal
 -- leaves the output as it was.
-use Rattle.std.specs.Prelude.{ℕ, cond, List, ◌++◌, leb, eqb, length, drop, ℤ}
+use Rattle.std.specs.Prelude.{ℕ, cond, List, ◌++◌, leb, length, drop, ℤ, Option, Some, None}
+use Rattle.limits.specs.Refusals.{number_of}
+use Rattle.limits.specs.declared.Refusal.{Refusal}
 use Rattle.vint.specs.Vint.{vint_bytes}
 use Rattle.expull_walk.specs.Blocks.{lane_bytes}
 use Rattle.store_state.specs.declared.State.{State}
@@ -37,14 +39,17 @@ out r o = record { answer = r; output = o }
 abbrev pub at_front : List ℤ → List ℤ → List ℤ
 at_front rs o = rs ++ drop (length rs) o
 
+-- RULES AB7. By how the bytes end.
+abbrev pub on_ended : Option Refusal → Split → List ℤ → Out
+on_ended None s output = out (Readings (length s.numbers)) (at_front (readings_in s) output)
+on_ended (Some r) s output = out (Refused (number_of r) (length s.numbers)) output
+
 -- RULES AB7. What bytes that split so answer: 8, then the vint reader's number, each with the count of whole readings;
 -- else the readings.
 unfoldable pub on_split : Split → List ℤ → Out
 on_split s output =
     cond (leb (length s.numbers) (length output))
-    (cond (eqb s.refusal 0)
-    (out (Readings (length s.numbers)) (at_front (readings_in s) output))
-    (out (Refused s.refusal (length s.numbers)) output))
+    (on_ended s.refusal s output)
     (out (Refused 8 (length s.numbers)) output)
 
 -- RULES AB7. Of a standing lane: header and blocks are met first (4).

@@ -115,9 +115,8 @@ fn readings_at(
     if output.len() < n {
         return Recalled::Refused(8, n as u64);
     }
-    let fault = reading_run::end_of(counted);
-    if fault != 0 {
-        return Recalled::Refused(fault, n as u64);
+    if let Some(r) = reading_run::end_of(counted) {
+        return Recalled::Refused(r.number(), n as u64);
     }
     take_lane(lists, arena, h, output);
     Recalled::Readings(n as u64)

@@ -8,6 +8,8 @@ use lib.ListN.{length}
 use Rattle.expull_header.specs.Header.{block_count}
 use Rattle.expull_walk.specs.Blocks.{good_blocks, lane_bytes}
 use Rattle.expull_header.proofs.Laws.{sound_facts}
+use Rattle.std.specs.Prelude.{None}
+use Rattle.reading_run.specs.Readings.{vints_of}
 use Rattle.store_look.specs.Look.{lent}
 use Rattle.records.proofs.Laws.{Headed, head-found, head_lost}
 use Rattle.reading_run.specs.Run.{Out}
@@ -64,15 +66,14 @@ returns-then-output-n c =
     (goal.at.returns-then-output-n c).In-Sound) (good (goal.at.returns-then-output-n c).Else-not-are_good_blocks)
     (subst (λ (k : ℕ). length a.output.now < k) c.count_lane-counted.ensures.0 c.if-output-n.true))
 
-pub returns-then-fault-ne0 : goal.returns-then-fault-ne0
-returns-then-fault-ne0 c =
+pub returns-in-Some : goal.returns-in-Some
+returns-in-Some c =
     let a = c.args in
     let m = lent a.table.now a.keys.now a.lists.now in
-    let f = c.end_of-fault.ensures ∙ c.count_lane-counted.ensures.1 in (λ i. out (Refused (f i)
+    let f = c.in-Some.ensures ∙ c.count_lane-counted.ensures.1 in (λ i. out (Refused (c.number.ensures i)
     (c.count_lane-counted.ensures.0 i)) a.output.now) ∙ sym (readings_bad a.st m a.at a.output.now _ (headed
-    (goal.at.returns-then-fault-ne0 c).In-Sound) (good (goal.at.returns-then-fault-ne0 c).Else-not-are_good_blocks)
-    (subst (λ (k : ℕ). k ≤ length a.output.now) c.count_lane-counted.ensures.0 c.if-output-n.false) (λ z.
-    c.if-fault-ne0.true (f ∙ z)))
+    (goal.at.returns-in-Some c).In-Sound) (good (goal.at.returns-in-Some c).Else-not-are_good_blocks)
+    (subst (λ (k : ℕ). k ≤ length a.output.now) c.count_lane-counted.ensures.0 c.if-output-n.false) c.in-Some.r (sym f))
 
 pub take_lane-requires : goal.take_lane-requires
 take_lane-requires c = (
@@ -88,9 +89,9 @@ pub returns : goal.returns
 returns c =
     let a = c.args in
     let m = lent a.table.now a.keys.now a.lists.now in
-    let f = c.end_of-fault.ensures ∙ c.count_lane-counted.ensures.1 in
+    let f = sym (c.in_default-end_of.ensures ∙ c.count_lane-counted.ensures.1) in
     let l = subst (λ (k : ℕ). k ≤ length a.output.now) c.count_lane-counted.ensures.0 c.if-output-n.false in
     let o = ap (λ (t : Out). t.output) c.take_lane.ensures ∙ (ran (lane_bytes a.lists.now c.in-Sound.h)
     a.output.now).output l in (λ i. out (Readings (c.count_lane-counted.ensures.0 i)) (o i)) ∙ sym (readings_done
     a.st m a.at a.output.now _ (headed (goal.at.returns c).In-Sound) (good (goal.at.returns
-    c).Else-not-are_good_blocks) l (sym f ∙ c.if-fault-ne0.false))
+    c).Else-not-are_good_blocks) l f)

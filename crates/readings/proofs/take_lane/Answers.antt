@@ -82,7 +82,7 @@ slice_bounds-take_bytes-end c =
 
 pub take_bytes-s-requires : goal.take_bytes-s-requires
 take_bytes-s-requires c =
-    let r = (full (goal.at.take_bytes-s-requires c).After-get_block_size-size).1 in (r.places, (r.few, r.room))
+    let r = (full (goal.at.take_bytes-s-requires c).After-get_block_size-size).1 in (r.few, r.room)
 
 pub get_u32-place-requires : goal.get_u32-place-requires
 get_u32-place-requires c = omega (arith, (full (goal.at.get_u32-place-requires c).After-get_block_size-size).0)
@@ -111,7 +111,7 @@ slice_bounds-take_bytes-end-2 c =
 
 pub take_bytes-requires : goal.take_bytes-requires
 take_bytes-requires c =
-    let r = tail (goal.at.take_bytes-requires c).After-get_block_size-size-2 in (r.places, (r.few, r.room))
+    let r = tail (goal.at.take_bytes-requires c).After-get_block_size-size-2 in (r.few, r.room)
 
 pub shape_of-output : goal.shape_of-output
 shape_of-output c = c.take_bytes.auto.output ∙ same (goal.at.shape_of-output c).At-loop-i
