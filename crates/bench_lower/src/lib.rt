@@ -40,13 +40,12 @@ fn hash(line: &[u8], scratch: &mut Scratch, out: &impl Print) -> Result<(), Unan
 // `vint N`
 fn vint(line: &[u8], out: &impl Print) -> Result<(), Unanswered> {
     let v = vint::serialize_vint_u32(words::u32_at(line, 1)?);
-    let bytes = &v.bytes[..v.count.min(v.bytes.len())];
-    Ok(println!(out; "vint {}", Hex(bytes))?)
+    Ok(println!(out; "vint {}", Hex(v.as_slice()))?)
 }
 
 fn say_unvint(read: Result<Read, Refusal>, out: &impl Print) -> io::Result<()> {
     match read {
-        Ok(read) => println!(out; "number {} taken {}", read.n, read.taken),
+        Ok(read) => println!(out; "number {} taken {}", read.number, read.taken),
         Err(why) => say::refused(out, why.number()),
     }
 }

@@ -45,11 +45,11 @@ AllFit (e ∷ es) = Fits e × AllFit es
 
 -- ---- gone through from the front
 
--- RULES Y11, AH3. What may be met at a place: an entry's places, where its name ends, where its bytes start, and where
--- they end; or no whole entry is there
+-- RULES Y11, AH3. What may be met at a place: an entry's places, or no whole entry is there
 abbrev pub Next : Type 0
 Next = Option Places
 
+-- RULES Y11, AH3. An entry: where its name ends, where its bytes start, and where they end
 abbrev pub whole : ℕ → ℕ → ℕ → Next
 whole nameEnd from to = Some (record { name_end = nameEnd; from = from; to = to })
 

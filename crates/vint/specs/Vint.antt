@@ -73,10 +73,11 @@ last_group v k = v / 128 ^ (k - 1)
 abbrev pub is_another_form : ℕ → ℕ → Bool
 is_another_form k g = (eqb k vint_limit && ltb fifth_limit g) || (leb 2 k && eqb g 0)
 
--- RULES K3. What the reader answers, and what it answers of a number v read from k bytes.
+-- RULES K3. What the reader answers.
 abbrev pub Unvint : Type 0
 Unvint = Result Read Refusal
 
+-- RULES K3. What it answers of a number v that it read from k bytes.
 abbrev pub number : ℕ → ℕ → Unvint
 number v k = Ok (record { number = v; taken = k })
 
