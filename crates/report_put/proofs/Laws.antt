@@ -5,7 +5,9 @@ use mathlib.Core.Logic.{◌⊎◌, inl, inr, ⊎_elim}
 use mathlib.Core.Bool.{Bool, true, false}
 use mathlib.Core.List.{List, [], ◌∷◌, ◌++◌, append_assoc, append-nil}
 use native.Mathlib.Numerals.{add-one}
+use native.Mathlib.Nat.{pow-suc, pow-le-pow_right}
 use native.Mathlib.Omega.{arith}
+use Rattle.std.specs.Prelude.{max}
 use lib.Dec.{ltb}
 use lib.ListN.{length, take, drop, get_or, set, length-append, length-drop}
 use lib.Seq.{take-suc, take_all, get_or-drop}
@@ -97,69 +99,47 @@ spread-ends {n} {m} {o} {i} P e h =
 
 -- ---- decimals
 
-second : (w n : ℕ) → n < 10 ^ suc w → 10 ≤ n → 1 ≤ w
-second zero n h k = absurd (omega arith)
-second (suc w) n h k = omega arith
-
--- a rest, with the digits behind it, at most w digits before those
-pub record Rest (n w rest : ℕ) (behind : List ℕ) : Type 0 where
-  pub whole : decimal n ≡ digits (suc w) rest ++ behind
-  pub small : rest < 10 ^ suc w
-
-pub rest_starts : (n : ℕ) → n < 10 ^ 18 → Rest n 17 n []
-rest_starts n h = record { whole = sym (append-nil (digits 18 n)); small = h }
-
-pub rest-on : {n w rest : ℕ} {behind : List ℕ} → Rest n (suc w) rest behind → 10 ≤ rest
-    → Rest n w (rest / 10) ((48 + rest % 10) ∷ behind)
-rest-on {n} {w} {rest} {behind} R h = record {
-  whole = R.whole ∙ ap (λ (l : List ℕ). l ++ behind) (digits-on (suc w) rest h)
-      ∙ append_assoc (digits (suc w) (rest / 10)) ((48 + rest % 10) ∷ []) behind;
-  small = reach (suc w) rest R.small;
-}
-
-pub rest_more : {n w rest : ℕ} {behind : List ℕ} → Rest n w rest behind → 10 ≤ rest → 1 ≤ w
-rest_more {n} {w} {rest} R h = second w rest R.small h
-
-pub rest-ends : {n w rest : ℕ} {behind : List ℕ} → Rest n w rest behind → rest < 10 → decimal n
-    ≡ (48 + rest % 10) ∷ behind
-rest-ends {n} {w} {rest} {behind} R h =
-    let z : rest ≡ rest % 10 = omega arith in
-    R.whole ∙ ap (λ (l : List ℕ). l ++ behind) (digits_last w rest h) ∙ ap (λ (x : ℕ). (48 + x) ∷ behind) z
-
--- counting them
-pub record Counting (n rest k : ℕ) : Type 0 where
-  pub before : ℕ
-  pub behind : List ℕ
-  pub fits : k + before ≡ 18
-  pub long : length behind + 1 ≡ k
-  pub rest_is : Rest n before rest behind
-
-pub counting_starts : (n : ℕ) → n < 10 ^ 18 → Counting n n 1
-counting_starts n h = record { before = 17; behind = []; fits = refl; long = refl; rest_is = rest_starts n h }
-
-pub counting-on : {n rest k : ℕ} → Counting n rest k → 10 ≤ rest → Counting n (rest / 10) (k + 1)
-counting-on {n} {rest} {k} C h = go C.before C.fits C.rest_is
-  where
-    go : (w : ℕ) → k + w ≡ 18 → Rest n w rest C.behind → Counting n (rest / 10) (k + 1)
-    go zero f R = absurd (omega (arith, rest_more R h))
-    go (suc w) f R = record {
-      before = w;
-      behind = (48 + rest % 10) ∷ C.behind;
-      fits = omega arith;
-      long = omega
-          (arith, C.long);
-      rest_is = rest-on R h;
-    }
-
-pub counting-ends : {n rest k : ℕ} → Counting n rest k → rest < 10 → k ≡ length (decimal n)
-counting-ends {n} {rest} {k} C h = omega (arith, C.long, ap length (rest-ends C.rest_is h))
-
 below_10 : (n : ℕ) → (n < 10) ⊎ (10 ≤ n)
 below_10 n = go (ltb n 10) refl
   where
     go : (t : Bool) → ltb n 10 ≡ t → (n < 10) ⊎ (10 ≤ n)
     go true e = inl (borrow.Author.Tests.ltb-true n 10 e)
     go false e = inr (borrow.Author.Tests.ltb-false n 10 e)
+
+-- how many there are, by the powers of ten around the number
+digits_many : (k w n : ℕ) → 10 ^ k ≤ n → n < 10 * 10 ^ k → k ≤ w → length (digits (suc w) n) ≡ k + 1
+digits_many zero w n p q h = rw (digits_last w n (omega arith)) (omega arith)
+digits_many (suc k) zero n p q h = absurd (omega arith)
+digits_many (suc k) (suc w) n p q h =
+    let u : 10 ^ suc k ≡ 10 ^ k * 10 = pow-suc 10 k in
+    let one : 1 ≤ 10 ^ k = pow-le-pow_right {n = 10} (omega arith) {i = 0} {j = k} (omega arith) in
+    let e = digits-on (suc w) n (omega arith) in
+    omega (
+      arith,
+      ap length e ∙ length-append (digits (suc w) (n / 10)) ((48 + n % 10) ∷ []),
+      digits_many k w (n / 10) (omega arith) (omega arith) (omega arith),
+    )
+
+pub decimal_many : (n m k : ℕ) → n < 10 ^ 18 → m ≡ max n 1 → 10 ^ k ≤ m → m < 10 * 10 ^ k
+    → k + 1 ≡ length (decimal n)
+decimal_many n m k h e p q = ⊎_elim (λ (l : n < 10). few l k p) (λ (l : 10 ≤ n). many l) (below_10 n)
+  where
+    few : n < 10 → (k : ℕ) → 10 ^ k ≤ m → k + 1 ≡ length (decimal n)
+    few l zero p = rw (digits_last 17 n l)
+    few l (suc k) p =
+        let u : 10 ^ suc k ≡ 10 ^ k * 10 = pow-suc 10 k in
+        let one : 1 ≤ 10 ^ k = pow-le-pow_right {n = 10} (omega arith) {i = 0} {j = k} (omega arith) in
+        absurd (omega arith)
+
+    within : (t : Bool) → ltb 17 k ≡ t → 10 ≤ n → k ≤ 17
+    within true g l =
+        let b : 17 < k = borrow.Author.Tests.ltb-true 17 k g in
+        let r : 10 ^ 18 ≤ 10 ^ k = pow-le-pow_right {n = 10} (omega arith) {i = 18} {j = k} (omega arith) in
+        absurd (omega arith)
+    within false g l = borrow.Author.Tests.ltb-false 17 k g
+
+    many : 10 ≤ n → k + 1 ≡ length (decimal n)
+    many l = sym (digits_many k 17 n (omega arith) (omega arith) (within (ltb 17 k) refl l))
 
 -- one more in front
 in-front : (p d : ℕ) (behind m : List ℕ) → set (overwrite (p + 1) behind m) p d ≡ overwrite p (d ∷ behind) m

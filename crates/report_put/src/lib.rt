@@ -48,13 +48,7 @@ pub fn digit_count(n: u64) -> usize
     requires { n < 10 ^ 18 }
     ensures { result ≡ length (decimal n) }
 {
-    let mut rest = n;
-    let mut k = 1;
-    while 10 <= rest {
-        rest /= 10;
-        k += 1;
-    }
-    k
+    n.max(1).ilog10() as usize + 1
 }
 
 // A decimal.
