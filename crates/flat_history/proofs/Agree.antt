@@ -285,7 +285,7 @@ module _ (capacity seed size : ℕ) (table keys lists : List ℕ) (w : World)
         held-nameless f.buffer f.used [] inside (omega arith),
       );
       nameless_appended = λ bytes.
-          both_refuse Nameless (λ (z : 13 ≡ 0). omega arith) [] bytes (due_13 v (joined [] calls w) (length bytes))
+          both_refuse NoName (λ (z : 13 ≡ 0). omega arith) [] bytes (due_13 v (joined [] calls w) (length bytes))
           (append_13 f.buffer f.used [] bytes inside (omega arith));
     }
 
