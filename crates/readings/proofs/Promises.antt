@@ -3,9 +3,9 @@ use Prim.Native.Nat.{ℕ, ◌≤◌}
 use mathlib.Core.Path.{◌≡◌, refl, subst}
 use mathlib.Core.Logic.{◌≢◌}
 use mathlib.Core.Bool.{Bool, true, false, cond, false≢true}
-use mathlib.Core.List.{List, ◌∷◌}
+use mathlib.Core.List.{List}
 use native.Mathlib.Omega.{arith}
-use lib.Dec.{leb, eqb}
+use lib.Dec.{leb}
 use lib.ListN.{length}
 use lib.IntN.{ℤ}
 use borrow.Author.Tests.{le-leb}
@@ -24,10 +24,10 @@ use Rattle.store_look.specs.Look.{Lent, lookup_of, blocks_sound}
 use Rattle.store_append.specs.Append.{declined}
 use Rattle.store_look.proofs.Fair.{fair-lookup}
 use Rattle.store.proofs.Promises.{promises as store-promises}
-use Rattle.reading_run.specs.Readings.{reading_bytes, Split, vints_of, readings_in}
+use Rattle.reading_run.specs.Readings.{reading_bytes, Split, vints_of}
 use Rattle.reading_run.proofs.Split.{refusals_listed, Listed}
-use Rattle.readings.specs.declared.Recalled.TheVariants.{Readings, Refused}
-use Rattle.readings.specs.Readings.{Out, out, at_front, on_ended, on_split, readings_at, on_lookup, readings_of, append_reading_of}
+use Rattle.readings.specs.declared.Recalled.TheVariants.{Refused}
+use Rattle.readings.specs.Readings.{Out, out, on_ended, on_split, readings_at, on_lookup, readings_of, append_reading_of}
 use Rattle.readings.specs.Said.{said_recalled}
 use Rattle.readings.specs.Promises.{Promises}
 use Rattle.readings.proofs.Found.{fair_readings}

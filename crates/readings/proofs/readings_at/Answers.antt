@@ -8,8 +8,6 @@ use lib.ListN.{length}
 use Rattle.expull_header.specs.Header.{block_count}
 use Rattle.expull_walk.specs.Blocks.{good_blocks, lane_bytes}
 use Rattle.expull_header.proofs.Laws.{sound_facts}
-use Rattle.std.specs.Prelude.{None}
-use Rattle.reading_run.specs.Readings.{vints_of}
 use Rattle.store_look.specs.Look.{lent}
 use Rattle.records.proofs.Laws.{Headed, head-found, head_lost}
 use Rattle.reading_run.specs.Run.{Out}
