@@ -62,7 +62,10 @@ fn say_reading(
         Ok(Some(n)) => println!(out; "reading {n}{}", Written::of(n as usize, output)),
         Ok(None) => println!(out; "absent{kept}"),
         Err(NotRead::TooShort(needed)) => {
-            println!(out; "refused {} {needed}{kept}", Refusal::OutputTooShort.number())
+            println!(out;
+                "refused {} {needed}{kept}",
+                Refusal::OutputTooShort.number()
+            )
         }
         Err(NotRead::Refused(why)) => println!(out; "refused {}{kept}", why.number()),
     }

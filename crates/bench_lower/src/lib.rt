@@ -104,10 +104,7 @@ fn length_at(line: &[u8], lists: &[u8]) -> Result<usize, Fault>
     words::length_at(line, 3, lists.len(), Fault::PastTheEnd)
 }
 
-fn say_allocated(
-    allocated: Result<Option<Room>, Refusal>,
-    out: &impl Print,
-) -> io::Result<()> {
+fn say_allocated(allocated: Result<Option<Room>, Refusal>, out: &impl Print) -> io::Result<()> {
     match allocated {
         Ok(Some(room)) => {
             println!(out; "at {} {} {}", room.at, room.after.page, room.after.used)

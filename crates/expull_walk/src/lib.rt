@@ -59,7 +59,9 @@ impl<'a> Lists<'a> {
     {
         let place = self.walk(head, i)?;
         let size = expull_header::get_block_size(i + 3) as usize;
-        self.arena.is_good_span(place, size + limits::LINK).then_some(place)
+        self.arena
+            .is_good_span(place, size + limits::LINK)
+            .then_some(place)
     }
 
     // Whether the first n blocks of a list, bytes and link, are good spans.

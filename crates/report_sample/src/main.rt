@@ -32,7 +32,11 @@ fn tell_bytes(out: &impl Print, hex: &[u8]) -> io::Result<()> {
             println!(out; "bytes {k} {first}")
         }
         Ok(None) => println!(out; "no hex"),
-        Err(short) => println!(out; "refused {} {}", Refusal::OutputTooShort.number(), short.needed),
+        Err(short) => println!(out;
+            "refused {} {}",
+            Refusal::OutputTooShort.number(),
+            short.needed
+        ),
     }
 }
 
