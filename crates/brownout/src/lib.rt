@@ -206,16 +206,13 @@ fn go_over(st: State, table: &[u32], keys: &[u8], lists: &[u8], marks: &mut [u8]
         ≡ gone_over st (lent table.now keys.now lists.now) st.buckets 0 0
         marks.old }
 {
-    let buckets = st.buckets;
-    let mut i = 0;
     let mut count = 0;
-    while i < buckets {
+    for i in 0..st.buckets {
         let fault = look_over(st, table, keys, lists, marks, i);
         if fault != 0 {
             return Checked::Faulty(i, fault);
         }
         count = count_on(st, table, keys, lists, i, count);
-        i += 1;
     }
     if st.keys == count {
         return Checked::Sound;

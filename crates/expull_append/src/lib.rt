@@ -40,6 +40,7 @@ pub fn blocks_fit(arena: Arena, len: usize, h: Header, n: usize) -> bool
     let mut left = n.saturating_sub(h.remaining as usize);
     let mut number = h.number;
     let mut state = arena;
+    // blocks grow, so how many it takes is known when they are counted
     while 0 < left {
         number += 1;
         let size = expull_header::get_block_size(number) as usize;
@@ -124,6 +125,7 @@ pub fn extend_from_slice(lists: &mut [u8], arena: Arena, h: Header, bytes: &[u8]
 {
     let mut w = Extended { header: h, arena };
     let mut rest = bytes;
+    // a chunk is what a block has left, so no `for` over chunks of one length
     while !rest.is_empty() {
         let v = ensure_capacity(lists, w);
         let n = rest.len().min(v.header.remaining as usize);

@@ -63,6 +63,7 @@ pub fn copy_run(run: &[u8], name: &[u8], output: &mut [u8])
 {
     let mut at = 0;
     let mut done = 0;
+    // as above, no `for`
     while at < run.len() {
         let Some(e) = entries::entry_at(run, at) else {
             return;

@@ -83,10 +83,9 @@ fn join_lanes(
         (store st (lent table.old keys.old lists.old)) 0 scratch.old }
 {
     let mut state = st;
-    let mut left = st2.buckets;
     let mut index = 0;
     let mut lanes = 0;
-    while 0 < left {
+    for _ in 0..st2.buckets {
         let next = match report_lanes::next_lane(st2, table2, keys2, lists2, index) {
             Ok(Some(lane)) => lane,
             Ok(None) => return Joined::Whole(state, lanes),
@@ -114,7 +113,6 @@ fn join_lanes(
         };
         state = s;
         index = next.bucket + 1;
-        left -= 1;
         lanes += 1;
     }
     Joined::Whole(state, lanes)

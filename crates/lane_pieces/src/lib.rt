@@ -63,6 +63,7 @@ pub fn block_holding(g: u64) -> u32
     }
     let mut i = 0;
     let mut held: u64 = 8;
+    // to the first block that reaches far enough; a `for` would have an end that is never reached
     while held <= g {
         i += 1;
         held = 2 * held + 8;

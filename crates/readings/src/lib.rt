@@ -8,7 +8,7 @@
 // shared_arena_hashmap, expull_header, expull_walk, store_state, store_create, store_look, store_append and store.
 #![tactic(auto)]
 
-ghost use Rattle.std.specs.Prelude.{◌≡◌, true, ◌+◌, ◌≤◌, length, take};
+ghost use Rattle.std.specs.Prelude.{◌≡◌, true, ◌+◌, ◌≤◌, length};
 ghost use Rattle.limits.specs.Refusals.{appending_reading, reading_readings, permitted};
 ghost use Rattle.memory_arena.specs.Calls.{sensible};
 ghost use Rattle.expull_header.specs.Header.{sound_header, block_count};
@@ -165,27 +165,6 @@ pub fn readings(
 
 // ---- a reading appended
 
-// An append of the first n bytes.
-fn append_front(
-    st: State,
-    table: &mut [u32],
-    keys: &mut [u8],
-    lists: &mut [u8],
-    name: &[u8],
-    bytes: &[u8],
-    n: usize,
-) -> ToldAppend
-    requires { n ≤ length bytes.now }
-    ensures settled { appended_out result.answer (lent table.new keys.new lists.new)
-        ≡ append_of st (lent table.old keys.old lists.old) name.now
-        (take n bytes.now) }
-    ensures numbered { permitted appending_reading (said_appended result.answer) ≡ true }
-    ensures walked { result.walk
-        ≡ looked_of st (lent table.old keys.old lists.old) name.now }
-{
-    store_append::append(st, table, keys, lists, name, &bytes[0..n])
-}
-
 // Appends a reading to the lane of a name, behind the lane's last accepted one (0 where there is none), which the
 // caller hands in.
 pub fn append_reading(
@@ -206,7 +185,5 @@ pub fn append_reading(
 {
     let d = signed::difference(last, new);
     let v = vint::serialize_vint_u32(signed::encode(d));
-    let b = v.bytes;
-    let n = v.count;
-    append_front(st, table, keys, lists, name, &b, n)
+    store_append::append(st, table, keys, lists, name, v.as_slice())
 }

@@ -243,6 +243,7 @@ fn check_noting(text: &[u8], notes: &mut [u8]) -> Result<Lanes, BadLine>
     let mut p = START;
     let mut at = 0;
     let mut lines: u64 = 0;
+    // each line tells where the next one is, so no `for`
     loop {
         let end = crate::line_end(text, at);
         if n <= end {

@@ -1,7 +1,7 @@
 -- Going over all buckets is going over those left. Assumes nothing.
 use Prim.Native.Nat.{◌<◌}
 use mathlib.Core.Bool.{true, false}
-use mathlib.Core.Path.{refl, ◌∙◌}
+use mathlib.Core.Path.{◌∙◌}
 use native.Mathlib.Omega.{arith}
 use borrow.Author.Tests.{eq-eqb, ne_eqb}
 use Rattle.store_look.specs.Look.{lent}
@@ -10,16 +10,16 @@ use Rattle.brownout.proofs.go_over.Goals as goal
 use Rattle.brownout.proofs.go_over.Goals.{After-look_over-fault}
 
 inside : (c : After-look_over-fault) → c.loop-i.i < c.args.st.buckets
-inside c = omega (arith, c.loop-i-test.true)
+inside c = omega arith
 
 pub loop-i-init : goal.loop-i-init
 loop-i-init c =
-    (refl, going-begun c.args.st (lent c.args.table.now c.args.keys.now c.args.lists.now) c.args.marks.now)
+    going-begun c.args.st (lent c.args.table.now c.args.keys.now c.args.lists.now) c.args.marks.now
 
 pub look_over-fault-requires : goal.look_over-fault-requires
 look_over-fault-requires c = (
   c.requires.0,
-  (omega (arith, c.loop-i-test.true), omega (arith, c.requires.1, c.loop-i.invariant.1.kept)),
+  (omega arith, omega (arith, c.requires.1, c.loop-i.invariant.1.kept)),
 )
 
 pub shape_of-marks-then-fault-ne0 : goal.shape_of-marks-then-fault-ne0
@@ -33,12 +33,6 @@ returns-then-fault-ne0 c =
 pub count_on-count-requires : goal.count_on-count-requires
 count_on-count-requires c =
     (c.requires.0, (inside (goal.at.count_on-count-requires c).After-look_over-fault, c.loop-i.invariant.1.few))
-
-pub overflow_add-i : goal.overflow_add-i
-overflow_add-i c = omega (arith, c.loop-i-test.true)
-
-pub loop-i-smaller : goal.loop-i-smaller
-loop-i-smaller c = omega (arith, c.loop-i-test.true)
 
 pub loop-i-preserved : goal.loop-i-preserved
 loop-i-preserved c = (
@@ -54,10 +48,10 @@ shape_of-marks-then-st-count c = c.loop-i.invariant.1.kept
 
 pub returns-then-st-count : goal.returns-then-st-count
 returns-then-st-count c =
-    going_end c.loop-i.invariant.1 (omega (arith, c.loop-i-test.false)) true (eq-eqb _ _ c.if-st-count.true)
+    going_end c.loop-i.invariant.1 (omega arith) true (eq-eqb _ _ c.if-st-count.true)
 
 pub shape_of-marks : goal.shape_of-marks
 shape_of-marks c = c.loop-i.invariant.1.kept
 
 pub returns : goal.returns
-returns c = going_end c.loop-i.invariant.1 (omega (arith, c.loop-i-test.false)) false (ne_eqb _ _ c.if-st-count.false)
+returns c = going_end c.loop-i.invariant.1 (omega arith) false (ne_eqb _ _ c.if-st-count.false)

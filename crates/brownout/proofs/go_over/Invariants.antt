@@ -1,13 +1,7 @@
 -- Going over all buckets is going over those left. Assumes nothing.
-use Prim.Native.Nat.{◌-◌}
-use mathlib.Core.Path.{◌≡◌}
 use Rattle.store_look.specs.Look.{lent}
 use Rattle.brownout.proofs.Turns.{Going}
 use Rattle.brownout.proofs.go_over.Given as goal
 
 abbrev pub invariant-loop-i : goal.invariant-loop-i
-invariant-loop-i l = (l.buckets ≡ l.st.buckets)
-    × Going l.st (lent l.table l.keys l.lists) l.initial.marks l.marks l.i l.count
-
-abbrev pub decreases-loop-i : goal.decreases-loop-i
-decreases-loop-i l = l.buckets - l.i
+invariant-loop-i l = Going l.st (lent l.table l.keys l.lists) l.initial.marks l.marks l.i l.count
