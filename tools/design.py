@@ -206,12 +206,30 @@ def p8():
             yield f, 1, "a let that stands there already"
 
 
-POINTS = [("1a", p1a), ("1b", p1b), ("1c", p1c), ("1d", p1d), ("2", p2), ("3", p3), ("4", p4), ("5a", p5a), ("5b", p5b), ("6", p6), ("7", p7), ("8", p8)]
+POINTS = {
+    "1a": p1a,
+    "1b": p1b,
+    "1c": p1c,
+    "1d": p1d,
+    "2": p2,
+    "3": p3,
+    "4": p4,
+    "5a": p5a,
+    "5b": p5b,
+    "6": p6,
+    "7": p7,
+    "8": p8,
+}
 
 if __name__ == "__main__":
-    if len(sys.argv) > 1:
-        for f, n, s in dict(POINTS)[sys.argv[1]]():
+    words = sys.argv[1:]
+    if words in (["-h"], ["--help"]):
+        print(__doc__)
+    elif not words:
+        for name, point in POINTS.items():
+            print(f"{name:3} {len(list(point())):4}  {point.__doc__}")
+    elif len(words) == 1 and words[0] in POINTS:
+        for f, n, s in POINTS[words[0]]():
             print(f"{f}:{n}: {s}")
     else:
-        for name, p in POINTS:
-            print(f"{name:3} {len(list(p())):4}  {p.__doc__}")
+        sys.exit("design.py: one of the points " + ", ".join(POINTS) + ", or none for all (--help says more)")
