@@ -17,7 +17,9 @@ ghost use Rattle.report_read.specs.Lines.{line_end, next_line, ahead, next_lane,
 
 // ---- what the calls share: where lines and lanes begin and end
 
-// Where the first newline is, or none.
+// Where the first newline is, or none. Out of line: each byte of a text comes by here, and written into its callers the
+// loop counts what they need later beside it, on the stack.
+#[inline(never)]
 fn newline(text: &[u8]) -> Option<usize>
     ensures { result ≡ position (λ b. b == newline) text.now }
 {

@@ -40,11 +40,11 @@ fn digits(text: &[u8]) -> Option<u64>
     Some(v)
 }
 
-// Lower-case.
+// Lower-case. Both tests are made: which of them a digit passes follows no pattern that a branch could learn.
 fn is_hex(b: u8) -> bool
     ensures { result ≡ is_hex b }
 {
-    matches!(b, b'0'..=b'9' | b'a'..=b'f')
+    b.is_ascii_digit() | matches!(b, b'a'..=b'f')
 }
 
 // Whether bytes are lower-case hex, two digits a byte.
