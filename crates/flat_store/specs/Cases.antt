@@ -49,8 +49,10 @@ pub said_answered : (said_length (length_of run 24 lane_a) ≡ answered a_length
     × ((read_of run 24 lane_a (sevens 4)).output ≡ 1 ∷ 2 ∷ 3 ∷ 7 ∷ [])
     × (said_read (read_of run 24 lane_a (sevens 2)).answer ≡ refused 8 (3 ∷ []))
     × ((read_of run 24 lane_a (sevens 2)).output ≡ sevens 2)
+    × (said_read (read_of run 24 lane_c (sevens 2)).answer ≡ answered absent [])
+    × ((read_of run 24 lane_c (sevens 2)).output ≡ sevens 2)
 unfolding length_of read_of
-said_answered = (refl, refl, refl, refl, refl, refl, refl)
+said_answered = (refl, refl, refl, refl, refl, refl, refl, refl, refl)
 
 -- RULES AH10. An entry that just fits, and one byte less; no name, also in a full buffer; a used count above the
 -- buffer, also with no name
