@@ -13,7 +13,7 @@ use Rattle.spans.specs.Span.{read_span, overwrite}
 use Rattle.spans.proofs.Laws.{overwrite-append}
 use Rattle.std.specs.Prelude.{None}
 use Rattle.entries.specs.Log.{Entry, entry}
-use Rattle.entries.specs.Form.{encoded, entry_size, encoded_all, Fits, AllFit, Next, whole, entry_at, met, in_front}
+use Rattle.entries.specs.Form.{encoded, entry_size, encoded_all, Fits, AllFit, Next, whole, entry_at, Inside, met, in_front}
 use Rattle.entries.specs.Form.{on_next, entries_from, entries_of}
 
 -- ---- an entry, by its tests
@@ -73,6 +73,11 @@ module _ (run : List ℕ) (at : ℕ) where
       let one : n ≡ suc n - 1 = omega arith in
       ap (λ (x : Next). on_next x run at (entries_from n run)) e
       ∙ ap (λ (k : ℕ). on_next (whole nameEnd from to) run at (entries_from k run)) one
+
+-- an entry that the bytes suffice for lies inside
+pub whole-inside : (len at n m : ℕ) → at ≤ len → 6 ≤ len - at → n ≤ len - at - 6 → m ≤ len - at - 6 - n
+    → Inside len at (whole (at + 2 + n) (at + 2 + n + 4) (at + 2 + n + 4 + m))
+whole-inside len at n m h i j k = (omega arith, (omega arith, (omega arith, omega arith)))
 
 -- ---- what is written
 

@@ -22,6 +22,11 @@ use Rattle.expull_append.proofs.Laws.{Readied, ready-reached, filled-reached}
 
 -- ---- the dry run's loop
 
+-- where no room is found, no plan goes on
+pub no_room : (r : MaybeRoom) (k : Arena → Option Arena) → (IsSome r → ⊥) → on_room_dry r k ≡ none
+no_room (Some r) k n = absurd (n refl)
+no_room None k n = refl
+
 -- what holds while the dry run takes blocks: the plan is that of the rest, and the block number is small, since each
 -- block moves the used end on
 pub record Planning (len left₀ number₀ : ℕ) (a₀ : Arena) (left number : ℕ) (a : Arena) : Type 0 where

@@ -180,14 +180,21 @@ unfolding block_of
 find_at a m h i l e = rw (lt-leb (block_count h) i l, add-one i, e)
 
 -- the blocks before i are good: the test of block i decides
+pub blocks_end : (a : Arena) (m : List ℕ) (head i place size : ℕ) (t u : Bool) → walk_of a m head i ≡ Some place
+    → size ≡ block_size (i + 3)
+    → t ≡ good_span a place (size + link_size) → t ≡ u → good_blocks a m head (suc i) ≡ u
+blocks_end a m head i place size t u w e f g =
+    let k = walk_true a m head i place w in
+    blocks_more a m head i ∙ rw k.0 (sym (f ∙ rw (k.1, e)) ∙ g)
+
+-- and tells its place
 pub place_tested : (a : Arena) (m : List ℕ) (head i place size : ℕ) (t : Bool) → walk_of a m head i ≡ Some place
     → size ≡ block_size (i + 3) → t ≡ good_span a place (size + link_size)
     → then_some t place ≡ place_of a m head i
 unfolding place_of
 place_tested a m head i place size t w e f =
     let k = walk_true a m head i place w in
-    let g : good_blocks a m head (i + 1) ≡ t =
-    rw (add-one i) (blocks_more a m head i ∙ rw k.0 (sym (f ∙ rw (k.1, e)))) in
+    let g : good_blocks a m head (i + 1) ≡ t = rw (add-one i) (blocks_end a m head i place size t t w e f refl) in
     rw (g, k.1) (go t)
   where
     go : (t : Bool) → then_some t (block_place m head i) ≡ cond t (Some (block_place m head i)) None

@@ -1,16 +1,26 @@
--- Laws of copies: what `copy_of` is in each case, and copies by words that cover the whole. Assumes nothing.
+-- Laws of copies: by parts, and by words, that cover the whole. Assumes nothing.
 use Prim.Native.Nat.{ℕ, ◌+◌, ◌-◌, ◌*◌, ◌/◌, ◌≤◌, ◌<◌}
 use mathlib.Core.Path.{◌≡◌, refl, sym, ap, ◌∙◌}
-use mathlib.Core.List.{List, [], ◌∷◌, ◌++◌}
+use mathlib.Core.List.{List, [], ◌∷◌, ◌++◌, append-nil}
 use native.Mathlib.Omega.{arith}
-use lib.ListN.{length, take, get_or, set}
+use lib.ListN.{length, take, drop, get_or, set, length-drop, drop_of_length-le, take-append-drop}
 use lib.Seq.{take-take, take_all, take-add}
+use borrow.Rule.Slice.PartMut.{put_mid}
 use Rattle.spans.specs.Span.{read_span, overwrite}
 use Rattle.numbers.specs.LittleEndian.{le_number, le_bytes}
 use Rattle.numbers.proofs.Laws.{le_back}
-use Rattle.spans.proofs.Laws.{length-overwrite, length_span, span_bytes, read_written, read_before}
+use Rattle.spans.proofs.Laws.{length-overwrite, length_span, span_bytes, read_written, read_before, overwrite-parts}
+use Rattle.spans.proofs.Laws.{part_back}
 
 -- ---- parts that cover the whole
+
+-- the rest of a list, written over one as long that has its first elements already
+pub overwrite-rest : (s m : List ℕ) (f : ℕ) → f ≤ length s → length s ≡ length m → take f m ≡ take f s
+    → overwrite f (drop f s) m ≡ s
+overwrite-rest s m f h l e =
+    let n : f + length (drop f s) ≡ length m = simp length-drop (omega arith) in
+    overwrite-parts f (drop f s) m (omega arith)
+    ∙ rw (e, drop_of_length-le m {i = f + length (drop f s)} (omega arith), append-nil) (take-append-drop f s)
 
 -- k elements of the source written at p, where the first p are the source's already: then the first p + k are
 pub part_on : (s m : List ℕ) (p k : ℕ) → p + k ≤ length s → length s ≡ length m → take p m ≡ take p s
@@ -23,6 +33,19 @@ part_on s m p k h l e =
     let u : take p (overwrite p (read_span p k s) m) ≡ take p s =
     read_before 0 p p (read_span p k s) m (omega arith) ∙ e in
     take-add p k (overwrite p (read_span p k s) m) ∙ (λ j. u j ++ t j) ∙ sym (take-add p k s)
+
+-- the same of a part that was lent, from p to e, and has come back as the source's
+pub part_on_back : (s m ys : List ℕ) (p e : ℕ) → p ≤ e → e ≤ length s → length s ≡ length m → take p m ≡ take p s
+    → ys ≡ take (e - p) (drop p s) → (length s ≡ length (put_mid p (e - p) m ys)) × (take e (put_mid p (e - p) m ys)
+    ≡ take e s)
+unfolding read_span
+part_on_back s m ys p e h k l t q =
+    let n : length (read_span p (e - p) s) ≡ e - p = length_span p (e - p) s (omega arith) in
+    let z : p + (e - p) ≡ e = omega arith in
+    rw (q, part_back m p e (read_span p (e - p) s) h (omega arith) n) (
+      l ∙ sym (length-overwrite p (read_span p (e - p) s) m),
+      rw z at (part_on s m p (e - p) (omega arith) l t),
+    )
 
 -- ---- words that cover the whole
 

@@ -9,7 +9,7 @@ use lib.Dec.{leb, ltb, eqb}
 use lib.ListN.{length}
 use borrow.Author.Tests.{lt-ltb, le-ltb, lt-leb, le-leb, leb-true, ltb-true}
 use Rattle.limits.specs.Limits.{name_limit}
-use Rattle.limits.specs.Refusals.{permitted, flat_reading}
+use Rattle.limits.specs.Refusals.{permitted, flat_looking_up, flat_measuring, flat_reading}
 use Rattle.numbers.proofs.Tests.{both}
 use Rattle.spans.specs.Span.{read_span, overwrite}
 use Rattle.entries.specs.Log.{entry, joined_in}
@@ -18,12 +18,23 @@ use Rattle.std.specs.Prelude.{Some, Ok, Err}
 use Rattle.limits.specs.declared.Refusal.TheVariants.{NotWhole, NameTooLong, Damage, NoName, BufferFull}
 use Rattle.flat_store.specs.declared.NotRead.TheVariants.{TooShort}
 use Rattle.flat_store.specs.Calls.{Out, out, has_room, append_of, Held, stands, absent, refuses, held_by, held_in}
-use Rattle.flat_store.specs.Calls.{held_of, reading, read_by, read_of}
-use Rattle.flat_store.specs.Said.{said_read}
+use Rattle.flat_store.specs.Calls.{held_of, lookup_by, length_by, reading, read_by, lookup_of, length_of, read_of}
+use Rattle.flat_store.specs.Said.{said_lookup, said_length, said_read}
 
 -- ---- room
 
 module _ (len used n m : ℕ) where
+  -- by its two tests
+  pub room-bytes : byte_limit < m → false ≡ has_room len used n m
+  room-bytes h = rw (lt-leb m byte_limit h)
+
+  pub room_none : m ≤ byte_limit → len < used + (n + m + 6) → false ≡ has_room len used n m
+  room_none h k = rw (le-leb m byte_limit h, lt-leb (used + (n + m + 6)) len k)
+
+  pub room_some : m ≤ byte_limit → used + (n + m + 6) ≤ len → true ≡ has_room len used n m
+  room_some h k = rw (le-leb m byte_limit h, le-leb (used + (n + m + 6)) len k)
+
+  -- and the other way round
   pub room_facts : has_room len used n m ≡ true → (m ≤ byte_limit) × (used + (n + m + 6) ≤ len)
   room_facts e =
       let p = both (leb m byte_limit) (leb (used + (n + m + 6)) len) e in (leb-true _ _ p.0, leb-true _ _ p.1)
@@ -31,6 +42,11 @@ module _ (len used n m : ℕ) where
 -- ---- an append
 
 module _ (buffer : List ℕ) (used : ℕ) (name bytes : List ℕ) where
+  -- by its tests, one after the other
+  pub append_2 : length buffer < used → append_of buffer used name bytes ≡ out (Err NotWhole) buffer
+  unfolding append_of
+  append_2 h = rw (lt-leb used (length buffer) h)
+
   pub append_3 : used ≤ length buffer → name_limit < length name
       → append_of buffer used name bytes ≡ out (Err NameTooLong) buffer
   unfolding append_of
@@ -41,12 +57,30 @@ module _ (buffer : List ℕ) (used : ℕ) (name bytes : List ℕ) where
   append_13 h k =
       rw (le-leb used (length buffer) h, le-leb (length name) name_limit (omega arith), le-ltb 0 (length name) k)
 
+  pub append_14 : used ≤ length buffer → length name ≤ name_limit → 0 < length name
+      → has_room (length buffer) used (length name) (length bytes) ≡ false
+      → append_of buffer used name bytes ≡ out (Err BufferFull) buffer
+  unfolding append_of
+  append_14 h k l r =
+      rw (le-leb used (length buffer) h, le-leb (length name) name_limit k, lt-ltb 0 (length name) l, r)
+
   -- where all tests hold
   pub record Taken : Type 0 where
     pub inside : used ≤ length buffer
     pub short : length name ≤ name_limit
     pub named : 0 < length name
     pub room : has_room (length buffer) used (length name) (length bytes) ≡ true
+
+  pub append-taken : Taken → append_of buffer used name bytes
+      ≡ out (Ok (used + entry_size name bytes)) (overwrite used (encoded (entry name bytes)) buffer)
+  unfolding append_of
+  append-taken T =
+      rw (
+        le-leb used (length buffer) T.inside,
+        le-leb (length name) name_limit T.short,
+        lt-ltb 0 (length name) T.named,
+        T.room,
+      )
 
   -- what holds of each outcome holds of the append
   pub append_any : (P : Out → Type 0) → P (out (Err NotWhole) buffer) → P (out (Err NameTooLong) buffer)
@@ -73,6 +107,11 @@ module _ (buffer : List ℕ) (used : ℕ) (name bytes : List ℕ) where
 -- ---- what is held
 
 module _ (buffer : List ℕ) (used : ℕ) (name : List ℕ) where
+  -- by its tests
+  pub held_2 : length buffer < used → held_of buffer used name ≡ refuses NotWhole
+  unfolding held_of
+  held_2 h = rw (lt-leb used (length buffer) h)
+
   pub held_3 : used ≤ length buffer → name_limit < length name → held_of buffer used name ≡ refuses NameTooLong
   unfolding held_of
   held_3 h k = rw (le-leb used (length buffer) h, lt-leb (length name) name_limit k)
@@ -117,7 +156,17 @@ module _ (buffer : List ℕ) (used : ℕ) (name : List ℕ) where
       go true false c x = p3
       go false b c x = p2
 
-  -- ---- so a reading's numbers are those that are listed for it
+  -- ---- so each call's numbers are those that are listed for it
+
+  pub fair-lookup : permitted flat_looking_up (said_lookup (lookup_of buffer used name)) ≡ true
+  unfolding lookup_of
+  fair-lookup =
+      held_any (λ h. permitted flat_looking_up (said_lookup (lookup_by h)) ≡ true) (λ bs S. refl) refl refl refl refl
+
+  pub fair-length : permitted flat_measuring (said_length (length_of buffer used name)) ≡ true
+  unfolding length_of
+  fair-length =
+      held_any (λ h. permitted flat_measuring (said_length (length_by h)) ≡ true) (λ bs S. refl) refl refl refl refl
 
   pub fair-read : (output : List ℕ) → permitted flat_reading (said_read (read_of buffer used name output).answer) ≡ true
   unfolding read_of read_by

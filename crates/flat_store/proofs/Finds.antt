@@ -11,7 +11,7 @@ use borrow.Author.Tests.{lt-leb, le-leb}
 use Rattle.std.specs.Prelude.{Some, None, Ok, Err}
 use Rattle.std.specs.Option.{is_some}
 use Rattle.limits.specs.Limits.{name_limit}
-use Rattle.limits.specs.Refusals.{permitted, flat_reading}
+use Rattle.limits.specs.Refusals.{permitted, flat_looking_up, flat_measuring, flat_reading}
 use Rattle.limits.specs.declared.Refusal.TheVariants.{Damage}
 use Rattle.spans.specs.Span.{read_span, overwrite}
 use Rattle.spans.proofs.Laws.{length_span}
@@ -22,8 +22,8 @@ use Rattle.flat_walk.proofs.Joined.{plain, tally_by, tally-joined, place-joined,
 use Rattle.flat_store.specs.declared.NotRead.TheVariants.{TooShort, Refused}
 use Rattle.flat_store.specs.Calls.{Held, stands, absent, refuses, held_by, held_of, length_by, lookup_by, Measured, Lookup}
 use Rattle.flat_store.specs.Calls.{Answer, Read, reading, read_by, lookup_of, length_of, read_of}
-use Rattle.flat_store.specs.Said.{said_read}
-use Rattle.flat_store.proofs.Calls.{held-named, Stood, held_any, fair-read}
+use Rattle.flat_store.specs.Said.{said_lookup, said_length, said_read}
+use Rattle.flat_store.proofs.Calls.{held-named, Stood, held_any, fair-lookup, fair-length, fair-read}
 
 -- ---- length
 
@@ -48,6 +48,13 @@ module _ (buffer : List ℕ) (used : ℕ) (name : List ℕ) where
       go true es = ap (λ (t : Tally). Ok t) (tally-joined name es none) ∙ by (joined_in name es none)
       go false es = refl
 
+  -- what is made of what is held is the length, and its number is one that is listed for it
+  pub length_from_lem : (r : Measured) → r ≡ length_by (held_of buffer used name)
+      → (r ≡ length_of buffer used name) × (permitted flat_measuring (said_length r) ≡ true)
+  unfolding length_of
+  length_from_lem r e =
+      (e, ap (λ (x : Measured). permitted flat_measuring (said_length x)) e ∙ fair-length buffer used name)
+
   -- ---- lookup
 
   -- a lookup by the length
@@ -63,6 +70,14 @@ module _ (buffer : List ℕ) (used : ℕ) (name : List ℕ) where
       go (stands bs) = refl
       go absent = refl
       go (refuses r) = refl
+
+  -- the same of a lookup
+  pub lookup_from_lem : (m : Measured) → m ≡ length_by (held_of buffer used name) → (r : Lookup) → r ≡ on_length m
+      → (r ≡ lookup_of buffer used name) × (permitted flat_looking_up (said_lookup r) ≡ true)
+  unfolding length_of
+  lookup_from_lem m e r q =
+      let same : r ≡ lookup_of buffer used name = q ∙ lookup_is m e in
+      (same, ap (λ (x : Lookup). permitted flat_looking_up (said_lookup x)) same ∙ fair-lookup buffer used name)
 
   -- ---- reading
 

@@ -5,7 +5,7 @@ use mathlib.Core.Bool.{Bool, true, false, cond}
 use mathlib.Core.List.{List, [], ◌∷◌}
 use native.Mathlib.Omega.{arith}
 use lib.ListN.{length}
-use Rattle.spans.specs.Span.{read_span}
+use Rattle.spans.specs.Span.{read_span, overwrite}
 use Rattle.fastcmp.specs.Equal.{equal_bytes}
 use Rattle.std.specs.Prelude.{Some, None}
 use Rattle.entries.specs.declared.Entry.{Entry as Places}
@@ -15,6 +15,26 @@ use Rattle.entries.proofs.Laws.{entries_none, entries-end, entries-whole}
 use Rattle.flat_walk.specs.Walk.{place_on, output_on, place_in, output_in}
 
 -- ---- one entry
+
+-- of the name asked for, or of another: the place behind it
+module _ (name other : List ℕ) (n at : ℕ) where
+  pub place_same : equal_bytes name other ≡ true → at + n ≡ place_on name other n at
+  unfolding place_on
+  place_same e = rw e
+
+  pub place_other : equal_bytes name other ≡ false → at ≡ place_on name other n at
+  unfolding place_on
+  place_other e = rw e
+
+-- and the output
+module _ (name other bytes : List ℕ) (at : ℕ) (output : List ℕ) where
+  pub output_same : equal_bytes name other ≡ true → overwrite at bytes output ≡ output_on name other bytes at output
+  unfolding output_on
+  output_same e = rw e
+
+  pub output_other : equal_bytes name other ≡ false → output ≡ output_on name other bytes at output
+  unfolding output_on
+  output_other e = rw e
 
 place_least : (name other : List ℕ) (n at : ℕ) → at ≤ place_on name other n at
 unfolding place_on

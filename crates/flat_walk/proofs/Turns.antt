@@ -18,6 +18,16 @@ use Rattle.entries.specs.Form.{entry_at, Inside, Met, met, in_front, entries_fro
 use Rattle.entries.proofs.Laws.{entries_none, entries-end, entries-whole}
 use Rattle.flat_walk.specs.Walk.{Tally, count, tally_on, tally_in, walked}
 
+-- an entry of the name asked for, or of another
+module _ (name other : List ℕ) (n : ℕ) (t : Tally) where
+  pub tally-same : equal_bytes name other ≡ true → Some (count t + n) ≡ tally_on name other n t
+  unfolding tally_on
+  tally-same e = rw e
+
+  pub tally_other : equal_bytes name other ≡ false → t ≡ tally_on name other n t
+  unfolding tally_on
+  tally_other e = rw e
+
 tally_most : (name other : List ℕ) (n : ℕ) (t : Tally) → count (tally_on name other n t) ≤ count t + n
 unfolding tally_on
 tally_most name other n t = go (equal_bytes name other)

@@ -204,13 +204,13 @@ module _ {h : Header} {given n room : ℕ} (k : Within h given n room) where
           ∙ good-on a m h.head first (blocks_met given n - first)
           ∙ rw (g, put-found.1)
 
-      put-stopped : {output output' : List ℕ} {w : Option ℕ} → went w output' ≡ gone_on a m first place given n output
+      pub put-stopped : {output output' : List ℕ} {w : Option ℕ} → went w output' ≡ gone_on a m first place given n output
           → w ≡ None → Put a m h given n output false output'
       put-stopped {output} {output'} {w} g s =
           let p = (gone-said a m first place given n output g).stopped s in
           put_false (put_decides ∙ p.0) p.1
 
-      put_done : {output output' : List ℕ} {w : Option ℕ} (last : ℕ)
+      pub put_done : {output output' : List ℕ} {w : Option ℕ} (last : ℕ)
           → went w output' ≡ gone_on a m first place given n output → w ≡ Some last → Put a m h given n output true output'
       put_done {output} {output'} {w} last g s =
           let p = (gone-said a m first place given n output g).come last s in

@@ -11,13 +11,14 @@ use lib.Count.{count_trailing_zeros}
 use lib.Dec.{leb, ltb, eqb, lit<}
 use borrow.Author.Tests.{le-leb, lt-leb, lt-ltb, leb-true, ltb-true, ltb-false, eqb-true, eqb-false, eq-eqb, ne_eqb}
 use Rattle.limits.specs.Limits.{page_taken, arena_limit_for, arena_limit, each_size, page_least, page_most, null_outside, limit_within}
+use Rattle.limits.specs.Refusals.{Asked, permitted}
 use Rattle.numbers.proofs.Tests.{both, both_true, left_false, right_false, same_test}
 use Rattle.memory_arena.specs.Address.{address_of, page_of, place_of}
 use Rattle.memory_arena.specs.declared.Arena.{Arena}
 use Rattle.memory_arena.specs.declared.Room.{Room}
-use Rattle.std.specs.Prelude.{None}
+use Rattle.std.specs.Prelude.{None, Ok}
 use Rattle.memory_arena.specs.Pages.{capacity_of, lendable, standing, used_on, good_span, room_at, room_for}
-use Rattle.memory_arena.specs.Calls.{sensible, reachable}
+use Rattle.memory_arena.specs.Calls.{sensible, reachable, said_allocated}
 
 -- ---- addresses: the split and the sum are inverse
 
@@ -388,3 +389,21 @@ unfolding reachable
 reach_in a len at n e =
     let p = both (sensible a len) (good_span a at n) e in
     good-in a at n len (sensible_facts a len p.0).stands p.1
+
+-- room is no refusal
+pub room-said : (a : Arena) (len n : ℕ) (q : Asked) → permitted q (said_allocated (Ok (room_for a len n))) ≡ true
+unfolding room_for
+room-said a len n q =
+    go (leb (a.used + n) (capacity_of a.size len a.page)) (leb n (capacity_of a.size len (a.page + 1)))
+  where
+    go : (t u : Bool)
+        → permitted q
+        (said_allocated
+        (Ok (cond t (room_at (address_of a.size a.page a.used)
+        (record { page = a.page; used = a.used + n; size = a.size }))
+        (cond u (room_at (address_of a.size (a.page + 1) 0) (record { page = a.page + 1; used = n; size = a.size }))
+        None))))
+        ≡ true
+    go true u = refl
+    go false true = refl
+    go false false = refl

@@ -7,7 +7,7 @@ use mathlib.Core.List.{List, [], ◌∷◌, ◌++◌}
 use native.Mathlib.Numerals.{add-one}
 use native.Mathlib.Omega.{arith}
 use lib.Dec.{leb, ltb, eqb}
-use lib.ListN.{length, take, drop, get_or, set, length-set, drop_of_length-le}
+use lib.ListN.{length, take, drop, get_or, set, replicate, length-set, drop_of_length-le}
 use lib.Seq.{length-take-le, take-suc-set, drop-cons}
 use borrow.Author.Tests.{le-leb, lt-leb, lt-ltb, ne_eqb, leb-true, ltb-true}
 use Rattle.limits.specs.Limits.{held_limit, fed_limit}
@@ -259,6 +259,19 @@ pub record Taking (first : Run) (piece before : List ℕ) (s : Run) (o : List �
   pub same : length o ≡ length before
   pub whole : turns_of s (drop i piece) o ≡ turns_of first piece before
 
+-- before the first byte
+pub taking_starts : (st : Pieces) (piece before : List ℕ) → length st.held ≡ held_limit → st.count ≤ held_limit
+    → Taking (begun st) piece before (begun st) before 0
+taking_starts st piece before l f = record {
+  at = refl;
+  within = omega arith;
+  long = l;
+  few = f;
+  no_more = omega arith;
+  same = refl;
+  whole = refl;
+}
+
 module _ {first : Run} {piece before : List ℕ} {s : Run} {o : List ℕ} {i : ℕ}
     (T : Taking first piece before s o i) (l : i < length piece) where
   abbrev b : ℕ
@@ -311,6 +324,10 @@ module _ {first : Run} {piece before : List ℕ} {s : Run} {o : List ℕ} {i : �
     turn_here : Turn r o'
     turn_here = subst (λ (t : Turned). Turn t.run t.output) (sym e) turned_so
 
+    -- the output is as long, at a fault too
+    pub taking-same : length o' ≡ length before
+    taking-same = turn_here.same ∙ T.same
+
     pub taking-on : is_none r.fault ≡ true → Taking first piece before r o' (suc i)
     taking-on z = record {
       at = turn_here.next z;
@@ -318,7 +335,7 @@ module _ {first : Run} {piece before : List ℕ} {s : Run} {o : List ℕ} {i : �
       long = turn_here.long;
       few = turn_here.few;
       no_more = turn_here.no_more z;
-      same = turn_here.same ∙ T.same;
+      same = taking-same;
       whole = sym (turns_on s b rest o (turned r o') e z) ∙ cut;
     }
 
@@ -331,6 +348,13 @@ taking-ends {piece = piece} {s = s} {o = o} T l =
     sym (turns_none s o) ∙ ap (λ (x : List ℕ). turns_of s x o) (sym (drop_of_length-le piece l)) ∙ T.whole
 
 -- ---- the end of a call
+
+-- held bytes and zeros behind them, as the state has them
+pub held_padded : (s : Run) (n : ℕ) → length s.held ≡ held_limit → s.count ≤ held_limit
+    → record { held = held_in s ++ replicate (held_limit - s.count) 0; count = s.count; fed = n } ≡ holding (held_in s) n
+held_padded s n l f =
+    let c = sym (length-take-le s.count s.held (omega arith)) in
+    λ j. record { held = held_in s ++ replicate (held_limit - c j) 0; count = c j; fed = n }
 
 -- all bytes taken: by what is held and whether there were any
 ends : (st : Pieces) (last : Bool) (h p ns o : List ℕ)

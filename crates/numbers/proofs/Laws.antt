@@ -1,15 +1,23 @@
--- Laws of little-endian numbers, over the width. Assumes nothing.
+-- Laws of products and of little-endian numbers, over the width. Assumes nothing.
 use Prim.Native.Nat.{ℕ, zero, suc, ◌+◌, ◌-◌, ◌*◌, ◌/◌, ◌%◌, ◌^◌, ◌<◌}
-use mathlib.Core.Path.{◌≡◌, refl, sym, ap, ◌∙◌}
+use mathlib.Core.Path.{◌≡◌, refl, sym, ap, ◌∙◌, subst⁻¹}
 use mathlib.Core.List.{List, [], ◌∷◌, ◌++◌}
+use native.Mathlib.Nat.{le_of_lt, lt_of_le_of_lt, mul-le-mul_left, mul-lt-mul_of_pos_right}
 use native.Mathlib.Nat.{mul_comm, mul_assoc, pow-suc, mod-one, div-one, div-div-eq-div-mul}
 use native.Mathlib.Omega.{arith}
 use lib.Dec.{lit<}
+use lib.Pow.{pow_pos, pow-add}
 use lib.Arith.{mod-mul}
 use lib.ListN.{length, get_or, take}
 use lib.Seq.{take-suc, take-length, length-take-le}
 use Rattle.std.specs.Int.{Width, w8, w16, w32, w64, w128, byte_len, byte_at, byte_worth, sum_through, bytes_low_first, from_le_bytes, to_le_bytes}
 use Rattle.numbers.specs.LittleEndian.{le_number, le_bytes, Bytes}
+
+-- the product of two numbers of k bits has at most k + k
+pub product_below : (k : ℕ) {a b : ℕ} → a < 2 ^ k → b < 2 ^ k → a * b < 2 ^ (k + k)
+product_below k {a} {b} ha hb =
+    subst⁻¹ (λ (n : ℕ). a * b < n) (pow-add 2 k k)
+    (lt_of_le_of_lt (mul-le-mul_left a (le_of_lt hb)) (mul-lt-mul_of_pos_right ha (pow_pos k)))
 
 -- ---- little-endian numbers
 

@@ -64,10 +64,16 @@ abbrev pub Listed : Option Refusal → Type 0
 Listed None = Unit {0}
 Listed (Some r) = is_among (number_of r) (refusal_numbers unvinting) ≡ true
 
-refusal_listed : (xs : List ℕ) (r : Refusal) → read_vint xs ≡ Err r → Listed (Some r)
+-- a refusal is a listed one
+pub refusal_listed : (xs : List ℕ) (r : Refusal) → read_vint xs ≡ Err r → Listed (Some r)
 refusal_listed xs r e =
     subst (λ (r : Unvint). permitted unvinting (said_unvint r) ≡ true) e
     (answers xs (take_vint vint_limit xs) (read_vint xs) refl refl).1
+
+-- and so its number isn't 0
+pub refusal_some : (xs : List ℕ) (r : Refusal) → read_vint xs ≡ Err r → number_of r ≡ 0 → ⊥
+refusal_some xs r e z =
+    false≢true (subst (λ (k : ℕ). is_among k (refusal_numbers unvinting) ≡ true) z (refusal_listed xs r e))
 
 splits_listed : (f : ℕ) (bs : List ℕ) → Listed (split_up f bs).refusal
 unfolding split_up

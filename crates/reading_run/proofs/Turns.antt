@@ -113,6 +113,17 @@ pub record Taking (s : Run) (bytes : List ℕ) (o₀ : List ℤ) (t : Run) (o : 
   pub room : t.readings + (length bytes - i) ≤ s.readings + length bytes
   pub long : length o ≡ length o₀
 
+-- before the first byte
+pub taking-begun : (s : Run) (bytes : List ℕ) (o : List ℤ) → s.count < vint_limit → Taking s bytes o s o 0
+taking-begun s bytes o h = record {
+  whole = refl;
+  there = omega arith;
+  places = refl;
+  few = h;
+  room = omega arith;
+  long = refl;
+}
+
 module _ {s : Run} {bytes : List ℕ} {o₀ : List ℤ} {t : Run} {o : List ℤ} {i : ℕ} (T : Taking s bytes o₀ t o i) where
   pub taking-on : i < length bytes → (t' : Run) (o' : List ℤ) → out t' o' ≡ turn_of t (get_or bytes i 0) o
       → Taking s bytes o₀ t' o' (suc i)

@@ -1,5 +1,5 @@
 -- Laws of scripts: a turn of the replay, and the call. Assumes nothing.
-use Prim.Native.Nat.{ℕ, ◌+◌, ◌-◌, ◌≤◌}
+use Prim.Native.Nat.{ℕ, zero, suc, ◌+◌, ◌-◌, ◌≤◌, ◌<◌}
 use mathlib.Core.Path.{◌≡◌, refl, sym, ap, ◌∙◌, subst}
 use mathlib.Core.Bool.{Bool, true, false, false≢true}
 use mathlib.Core.List.{List}
@@ -8,7 +8,7 @@ use lib.ListN.{length}
 use Rattle.limits.specs.Limits.{name_limit_for}
 use Rattle.std.specs.Prelude.{Some, None}
 use Rattle.entries.specs.declared.Entry.{Entry as Places}
-use Rattle.entries.specs.Form.{entry_at, Inside, Met, entries_from}
+use Rattle.entries.specs.Form.{whole, entry_at, Inside, Met, entries_from}
 use Rattle.entries.proofs.Laws.{entries_none, entries-whole}
 use Rattle.store_create.specs.Create.{Created}
 use Rattle.store_create.specs.Create.{Out as CreateOut, out as Create·out, creatable}
@@ -29,6 +29,25 @@ use Rattle.limits.specs.declared.Refusal.TheVariants.{NotCreatable}
 abbrev pub calls_from : ℕ → List ℕ → ℕ → List Call
 calls_from n s at = calls_by (entries_from n s at).entries
 
+module _ (s : List ℕ) (at : ℕ) where
+  -- no whole entry there: nothing is left to play
+  pub turn-ends : (n : ℕ) (w : World) → None ≡ entry_at s at → play (calls_from n s at) w ≡ w
+  unfolding play
+  turn-ends n w p = ap (λ (m : Met). play (calls_by m.entries) w) (entries_none s at n (sym p))
+
+  -- an entry there: its append, then what follows it
+  pub turn-plays : (n : ℕ) (st : State) (m : Lent) (e f t : ℕ) → 0 < n → whole e f t ≡ entry_at s at
+      → play (calls_from n s at) (world st m) ≡ play (calls_from (n - 1) s t) (played st m s (at + 2) e f t)
+  unfolding play
+  turn-plays n st m e f t h p =
+      ap (λ (x : Met). play (calls_by x.entries) (world st m)) (entries-whole s at n e f t h (sym p))
+
+-- no turn left: nothing is left to play
+pub turns_over : (s : List ℕ) (at n : ℕ) (w : World) → n ≤ 0 → play (calls_from n s at) w ≡ w
+unfolding entries_from play
+turns_over s at zero w h = refl
+turns_over s at (suc n) w h = absurd (omega arith)
+
 -- the loop on its way: what is left of the script, from a place on, of what was to be played on w. That many turns are
 -- enough, though the code counts none
 pub record Playing (s : List ℕ) (w v : World) (at : ℕ) : Type 0 where
@@ -41,24 +60,20 @@ pub playing_start : (s : List ℕ) (w : World) → Playing s w w 0
 playing_start s w = record { inside = omega arith; turns = length s; enough = omega arith; rest = refl }
 
 module _ {s : List ℕ} {w v : World} {at : ℕ} (P : Playing s w v at) where
-  -- no whole entry there: nothing is left to play
+  -- no whole entry there
   pub playing-ends : None ≡ entry_at s at → v ≡ play (calls_of s) w
-  unfolding play
-  playing-ends p =
-      sym (P.rest ∙ ap (λ (m : Met). play (calls_by m.entries) v) (entries_none s at P.turns (sym p)))
+  playing-ends p = sym (P.rest ∙ turn-ends s at P.turns v p)
 
-  -- an entry there: its append, then what follows it
+  -- an entry there
   pub playing-on : (e : Places) (u : World) → Some e ≡ entry_at s at → Inside (length s) at (Some e)
       → u ≡ played v.state v.memory s (at + 2) e.name_end e.from e.to → Playing s w u e.to
-  unfolding play
   playing-on e u p I q = record {
     inside = omega arith;
     turns = P.turns - 1;
     enough = omega (arith, P.enough);
     rest =
         P.rest
-        ∙ ap (λ (x : Met). play (calls_by x.entries) v)
-        (entries-whole s at P.turns e.name_end e.from e.to (omega (arith, P.enough)) (sym p))
+        ∙ turn-plays s at P.turns v.state v.memory e.name_end e.from e.to (omega (arith, P.enough)) p
         ∙ ap (play (calls_from (P.turns - 1) s e.to)) (sym q);
   }
 

@@ -12,7 +12,7 @@ use lib.Dec.{ltb}
 use lib.ListN.{length, take, drop, get_or, set, length-append, length-drop}
 use lib.Seq.{take-suc, take_all, get_or-drop}
 use Rattle.spans.specs.Span.{overwrite}
-use Rattle.spans.proofs.Laws.{read-after, span_at, store-one, store-next, overwrite-append}
+use Rattle.spans.proofs.Laws.{length-overwrite, read-after, span_at, store-one, store-next, overwrite-append}
 use Rattle.spans.proofs.Laws.{overwrite_swap, overwrite_none, overwrite-all}
 use Rattle.report_text.specs.Text.{newline, hex_digit, hex, digits, decimal, line}
 use Rattle.report_text.proofs.Values.{digits_last, digits-on, reach, hex-length}
@@ -63,6 +63,9 @@ putting_starts at s m = record {
 }
 
 module _ {at : ℕ} {s m o : List ℕ} {i : ℕ} (P : Putting at s m o i) where
+  pub putting-length : length o ≡ length m
+  putting-length = ap length P.output ∙ length-overwrite at (hex (take i s)) m
+
   pub putting-on : i < length s → (p x : ℕ) → p ≡ at + 2 * i → x ≡ get_or s i 0
       → Putting at s m (set (set o p (hex_digit (x / 16))) (p + 1) (hex_digit (x % 16))) (i + 1)
   putting-on h p x e f = record {
@@ -105,6 +108,17 @@ below_10 n = go (ltb n 10) refl
     go : (t : Bool) → ltb n 10 ≡ t → (n < 10) ⊎ (10 ≤ n)
     go true e = inl (borrow.Author.Tests.ltb-true n 10 e)
     go false e = inr (borrow.Author.Tests.ltb-false n 10 e)
+
+some_digit : (w n : ℕ) → 1 ≤ length (digits (suc w) n)
+some_digit w n =
+    ⊎_elim
+    (λ (h : n < 10). rw (digits_last w n h) (omega arith))
+    (λ (h : 10 ≤ n). rw (digits-on w n h) (simp length-append (omega arith)))
+    (below_10 n)
+
+-- there is one
+pub decimal_some : (n : ℕ) → n < 10 ^ 18 → 1 ≤ length (decimal n)
+decimal_some n h = some_digit 17 n
 
 -- how many there are, by the powers of ten around the number
 digits_many : (k w n : ℕ) → 10 ^ k ≤ n → n < 10 * 10 ^ k → k ≤ w → length (digits (suc w) n) ≡ k + 1
@@ -172,6 +186,30 @@ writing_starts n at m h = record {
 }
 
 module _ {n at : ℕ} {m o : List ℕ} {rest p : ℕ} (W : Writing n at m o rest p) where
+  pub writing-length : length o ≡ length m
+  writing-length = ap length W.output ∙ length-overwrite p W.behind m
+
+  -- the digits stand between the two ends
+  pub writing-room : p ≤ at + length (decimal n)
+  writing-room = omega (arith, W.place, ap length W.whole ∙ length-append W.front W.behind)
+
+  -- while two digits are left there is room before the next
+  pub writing_more : at < p → 10 ≤ rest → 2 ≤ p
+  writing_more h l = go W.front W.front_is W.place
+    where
+      more : (w r : ℕ) → r < 10 ^ suc w → 10 ≤ r → 2 ≤ length (digits (suc w) r)
+      more zero r s k = absurd (omega arith)
+      more (suc w) r s k =
+          omega (
+            arith,
+            ap length (digits-on (suc w) r k) ∙ length-append (digits (suc w) (r / 10)) ((48 + r % 10) ∷ []),
+            some_digit w (r / 10),
+          )
+
+      go : (f : List ℕ) → Front rest f → p ≡ at + length f → 2 ≤ p
+      go _ (written r) q = absurd (omega arith)
+      go _ (left w r s) q = omega (arith, more w r s l)
+
   pub writing-on : at < p → Writing n at m (set o (p - 1) (48 + rest % 10)) (rest / 10) (p - 1)
   writing-on h = go W.front W.front_is W.whole W.place
     where

@@ -9,14 +9,16 @@ use native.Mathlib.Omega.{arith}
 use lib.Dec.{leb, eqb}
 use lib.ListN.{length, take, drop, length-drop}
 use Rattle.limits.specs.Limits.{name_limit}
+use Rattle.limits.specs.Refusals.{unreporting, permitted}
 use Rattle.fastcmp.specs.Equal.{equal_bytes}
 use Rattle.marks.specs.Bits.{out}
 use Rattle.report_text.specs.Text.{store_line, terms_word, total_word, term_word, len_word, bytes_word, end_line}
-use Rattle.report_text.specs.Reader.{ended, lines_of, number_in, bytes_in, text_read}
+use Rattle.report_text.specs.Reader.{ended, lines_of, number_in, bytes_in, Told, lanes, bad, text_read}
 use Rattle.report_read.specs.declared.check.Progress.{Progress}
 use Rattle.report_read.specs.declared.check.Expected.{Expected}
 use Rattle.report_read.specs.declared.check.Expected.TheVariants.{Store as ToStore, Terms as ToTerms, Total as ToTotal, Lane as ToLane}
 use Rattle.report_read.specs.declared.check.Expected.TheVariants.{Length as ToLength, Bytes as ToBytes, Nothing as ToNothing}
+use Rattle.report_read.specs.declared.check.Lanes.{Lanes}
 use Rattle.report_read.specs.declared.check.BadLine.{BadLine}
 use Rattle.report_read.specs.Lines.{line_length, line_end, line_at, next_line, first_lane}
 use Rattle.report_read.specs.Counted.{seen_among, progress, good_if, on_number, on_bytes, store_counted, terms_counted}
@@ -24,6 +26,7 @@ use Rattle.report_read.specs.Counted.{total_counted, name_counted, end_counted, 
 use Rattle.report_read.specs.Counted.{bytes_counted, counted_as, line_counted, is_nothing, lanes_counted, bad_line, end_of, on_line, lines_counted, text_counted}
 use Rattle.report_read.specs.Counted.{checked_of}
 use Rattle.report_read.specs.Noted.{noted_of, Vouched}
+use Rattle.report_read.specs.Said.{said_checked}
 use Rattle.report_read.proofs.Lines.{line-long, ended_at, unended-at, next-found}
 use Rattle.report_read.proofs.LineKinds.{bytes_most}
 use Rattle.report_read.proofs.Counted.{counted_is}
@@ -235,3 +238,13 @@ module _ {t : List ℕ} {p : Progress} {at lines : ℕ} {notes : List ℕ} (h : 
     checking = checking-on h.checking e s l q g;
     noted = notes_on t (take (e - at) (drop at t)) (lines_of (drop (e + 1) t)) p notes maybe notes' q noted_here o g;
   }
+
+-- ---- its numbers are those that are listed for it
+
+fair : (r : Told) → permitted unreporting (said_checked (checked_of r)) ≡ true
+fair (lanes ls) = refl
+fair (bad n) = refl
+
+pub told : (t : List ℕ) (r : Result Lanes BadLine) → r ≡ checked_of (text_read t)
+    → (r ≡ checked_of (text_read t)) × (permitted unreporting (said_checked r) ≡ true)
+told t r e = (e, ap (λ (x : Result Lanes BadLine). permitted unreporting (said_checked x)) e ∙ fair (text_read t))

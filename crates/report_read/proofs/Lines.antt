@@ -5,11 +5,12 @@ use mathlib.Core.Bool.{Bool, true, false, cond}
 use Rattle.std.specs.Prelude.{min, Option, None, Some, unwrap_or, not, nat_eq, position}
 use Rattle.std.specs.List.{position_or_len}
 use mathlib.Core.List.{List, [], ◌∷◌}
+use native.Mathlib.Numerals.{add-one}
 use native.Mathlib.Omega.{arith}
 use lib.Dec.{ltb, eqb}
-use lib.ListN.{length, take, drop, length-drop, length-take}
-use lib.Seq.{take_all, drop-drop}
-use borrow.Author.Tests.{lt-ltb, le-ltb, ltb-true, ltb-false}
+use lib.ListN.{length, take, drop, get_or, drop_of_length-le, length-drop, length-take}
+use lib.Seq.{drop-cons, take_all, drop-drop}
+use borrow.Author.Tests.{lt-ltb, le-ltb, ltb-true, ltb-false, eq-eqb, ne_eqb}
 use Rattle.report_text.specs.Text.{newline, len_word}
 use Rattle.report_text.specs.Reader.{Lines, ended, unended, in_front, lines_of, number_in}
 use Rattle.report_read.specs.Lines.{line_length, line_end, line_at, next_line, ahead, or_zero, length_told, next_lane}
@@ -17,6 +18,24 @@ use Rattle.report_read.specs.Lines.{lanes_on}
 
 -- ---- where a line ends
 
+-- byte by byte
+pub length-turn : (t : List ℕ) (i : ℕ) → i < length t
+    → line_length (drop i t) ≡ cond (eqb (get_or t i 0) newline) 0 (suc (line_length (drop (suc i) t)))
+unfolding line_length
+length-turn t i h = rw (drop-cons t i 0 h)
+
+pub length_stop : (t : List ℕ) (i : ℕ) → i < length t → get_or t i 0 ≡ newline → line_length (drop i t) ≡ 0
+length_stop t i h e = length-turn t i h ∙ rw (eq-eqb (get_or t i 0) newline e)
+
+pub length_goes : (t : List ℕ) (i : ℕ) → i < length t → (get_or t i 0 ≡ newline → ⊥)
+    → line_length (drop i t) ≡ suc (line_length (drop (i + 1) t))
+length_goes t i h e = rw (add-one, length-turn t i h, ne_eqb (get_or t i 0) newline e)
+
+pub length-end : (t : List ℕ) (i : ℕ) → length t ≤ i → line_length (drop i t) ≡ 0
+unfolding line_length
+length-end t i h = rw (drop_of_length-le t h)
+
+-- by the library's search
 to_newline : (t : List ℕ) → position_or_len (λ x. nat_eq x newline) t ≡ line_length t
 unfolding line_length
 to_newline [] = refl
@@ -113,6 +132,10 @@ next-in t at h = go (ltb (line_end t at) (length t)) refl
 -- the code's next line
 pub next-found : (t : List ℕ) (at e : ℕ) → e ≡ line_end t at → e < length t → e + 1 ≡ next_line t at
 next-found t at e p h = sym (next_is t at (omega arith) ∙ ap (λ (n : ℕ). n + 1) (sym p))
+
+-- none where the line goes to the text's end
+pub next_none : (t : List ℕ) (at e : ℕ) → e ≡ line_end t at → length t ≤ e → e ≡ next_line t at
+next_none t at e p h = p ∙ sym (next-end t at (omega arith))
 
 -- by the lesser of two places
 pub next_least : (t : List ℕ) (at e r : ℕ) → e ≡ line_end t at → e ≤ length t → r ≡ min (length t) (e + 1)

@@ -1,12 +1,15 @@
 -- Laws of a lane's parts. Assumes nothing.
 use Prim.Native.Nat.{ℕ, zero, suc, ◌+◌, ◌-◌, ◌≤◌, ◌<◌}
 use mathlib.Core.Path.{◌≡◌, refl, sym, ap, ◌∙◌, subst}
-use Rattle.std.specs.Prelude.{Some, None, Ok, Err}
+use mathlib.Core.Bool.{Bool, true, false, cond}
+use Rattle.std.specs.Prelude.{Option, Some, None, Result, Ok, Err}
 use mathlib.Core.List.{List, [], ◌∷◌, ◌++◌}
 use native.Mathlib.Omega.{arith}
+use lib.Dec.{ltb}
 use lib.ListN.{length, take, drop, length-append}
 use lib.Seq.{take_all, drop-append_seam}
 use borrow.Author.Tests.{lt-ltb, le-ltb}
+use Rattle.limits.specs.Refusals.{unreporting, permitted}
 use Rattle.spans.specs.Span.{read_span}
 use Rattle.spans.proofs.Laws.{span_within}
 use Rattle.report_text.specs.Text.{Lane, term_word, bytes_word, hex}
@@ -15,10 +18,12 @@ use Rattle.report_text.proofs.Values.{hex_back}
 use Rattle.report_text.proofs.Forms.{bytes_form}
 use Rattle.report_read.specs.declared.check.Lanes.{Lanes}
 use Rattle.report_read.specs.declared.check.BadLine.{BadLine}
+use Rattle.report_read.specs.declared.pick.Lane.{Lane as Places}
 use Rattle.report_read.specs.Lines.{line_length, line_end, line_at, next_line, next_lane, lanes_on, first_lane}
 use Rattle.report_read.specs.Counted.{checked_of}
 use Rattle.report_read.specs.Lane.{bytes_line, places, parts_at, on_told, lane_of}
 use Rattle.report_read.specs.Pick.{PartsIn}
+use Rattle.report_read.specs.Said.{said_picked}
 use Rattle.report_read.specs.Promises.{Parts}
 use Rattle.report_read.proofs.Lines.{line-in, line-long, next-in}
 use Rattle.report_read.proofs.Counted.{OneLane, LanesAt, lanes_stand}
@@ -109,6 +114,22 @@ lane_is t before a behind e =
     (index_in t (before ++ (a ∷ behind)) (length before) e (omega (arith, length-append before (a ∷ behind))))
 
 -- ---- the code's ways
+
+fair : (r : Told) (t : List ℕ) (i : ℕ) → permitted unreporting (said_picked (on_told r t i)) ≡ true
+fair (lanes ls) t i = go (ltb i (length ls))
+  where
+    go : (b : Bool)
+        → permitted unreporting (said_picked (Ok (cond b (Some (parts_at t (lanes_on i t (first_lane t)))) None))) ≡ true
+    go true = refl
+    go false = refl
+fair (bad n) t i = refl
+
+-- its number is one that is listed for it
+pub told : (t : List ℕ) (i : ℕ) (r : Result (Option Places) BadLine) → r ≡ lane_of t i
+    → (r ≡ lane_of t i) × (permitted unreporting (said_picked r) ≡ true)
+unfolding lane_of
+told t i r e =
+    (e, ap (λ (x : Result (Option Places) BadLine). permitted unreporting (said_picked x)) e ∙ fair (text_read t) t i)
 
 module _ (t : List ℕ) (i : ℕ) (c : Lanes) (e : Ok c ≡ checked_of (text_read t)) where
   -- what a check that told lanes has read

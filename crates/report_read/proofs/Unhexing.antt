@@ -2,7 +2,7 @@
 use Prim.Native.Nat.{ℕ, zero, suc, ◌+◌, ◌-◌, ◌*◌, ◌/◌, ◌%◌, ◌≤◌, ◌<◌}
 use mathlib.Core.Path.{◌≡◌, refl, sym, ap, ◌∙◌}
 use mathlib.Core.Bool.{Bool, true, false, cond, ◌&&◌, ◌||◌}
-use Rattle.std.specs.Prelude.{Option, None, Some, Ok, Err, option_map}
+use Rattle.std.specs.Prelude.{Option, None, Some, Result, Ok, Err, option_map}
 use mathlib.Core.List.{List, [], ◌∷◌}
 use native.Mathlib.Numerals.{add-one}
 use native.Mathlib.Omega.{arith}
@@ -10,13 +10,16 @@ use lib.Dec.{leb, eqb}
 use lib.ListN.{length, take, get_or, set}
 use lib.Seq.{take_all}
 use borrow.Author.Tests.{le-leb, lt-leb, leb-true}
+use Rattle.limits.specs.Refusals.{unhexing, permitted}
 use Rattle.numbers.proofs.Tests.{both}
 use Rattle.spans.specs.Span.{overwrite}
 use Rattle.spans.proofs.Laws.{length-overwrite, overwrite_none, copy_turn}
 use Rattle.report_text.specs.Reader.{is_digit, is_hex, hex_value, byte_before, bytes_of}
 use Rattle.report_text.specs.Values.{all_hex, hex_text}
 use Rattle.report_text.proofs.Words.{hexed_is}
-use Rattle.report_read.specs.Unhex.{byte_in, or_none, out, too_short, on_hex, unhex_of}
+use Rattle.report_read.specs.declared.unhex.TooShort.{TooShort}
+use Rattle.report_read.specs.Said.{said_unhexed}
+use Rattle.report_read.specs.Unhex.{byte_in, or_none, Out, out, too_short, on_hex, unhex_of}
 
 -- ---- digits
 
@@ -141,6 +144,22 @@ unhexing-ends {cs} {m} {o} {i} U e h =
     U.output ∙ ap (λ (bs : List ℕ). overwrite 0 bs m) (take_all i (or_none (bytes_of cs)) (omega (arith, s.1)))
 
 -- ---- the call
+
+fair : (o : Option (List ℕ)) (m : List ℕ) → permitted unhexing (said_unhexed (on_hex o m).answer) ≡ true
+fair None m = refl
+fair (Some bs) m = go (leb (length bs) (length m))
+  where
+    go : (b : Bool)
+        → permitted unhexing (said_unhexed
+        (cond b (out (Ok (Some (length bs))) (overwrite 0 bs m)) (out (Err (too_short (length bs))) m)).answer) ≡ true
+    go true = refl
+    go false = refl
+
+-- its number is one that is listed for it
+pub told : (cs m : List ℕ) (r : Result (Option ℕ) TooShort) (o : List ℕ) → out r o ≡ unhex_of cs m
+    → (out r o ≡ unhex_of cs m) × (permitted unhexing (said_unhexed r) ≡ true)
+unfolding unhex_of
+told cs m r o e = (e, ap (λ (x : Out). permitted unhexing (said_unhexed x.answer)) e ∙ fair (bytes_of cs) m)
 
 pub unhex_none : (cs m : List ℕ) → hex_text cs ≡ false → out (Ok None) m ≡ unhex_of cs m
 unfolding unhex_of

@@ -94,6 +94,16 @@ number_one (c ∷ d ∷ t) h = absurd (omega arith)
 
 -- ---- hex
 
+-- from place i on
+pub hex-turn : (t : List ℕ) (i : ℕ) → i < length t → all_hex (drop i t)
+    ≡ cond (is_hex (get_or t i 0)) (all_hex (drop (suc i) t)) false
+unfolding all_hex
+hex-turn t i h = rw (drop-cons t i 0 h)
+
+pub hex-end : (t : List ℕ) (i : ℕ) → length t ≤ i → all_hex (drop i t) ≡ true
+unfolding all_hex
+hex-end t i h = rw (drop_of_length-le t h)
+
 pub hex_even : (t : List ℕ) → length t % 2 ≡ 0 → all_hex t ≡ hex_text t
 unfolding hex_text
 hex_even t e = rw e

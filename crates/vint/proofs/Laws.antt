@@ -2,7 +2,7 @@
 use Prim.Native.Nat.{ℕ, zero, suc, ◌+◌, ◌-◌, ◌*◌, ◌/◌, ◌%◌, ◌^◌, ◌≤◌, ◌<◌, zero-le, min}
 use mathlib.Core.Path.{◌≡◌, refl, sym, ap, ◌∙◌, subst}
 use mathlib.Core.Logic.{◌⊎◌, inl, inr, ⊎_elim}
-use mathlib.Core.Bool.{Bool, true, false, cond}
+use mathlib.Core.Bool.{Bool, true, false, cond, ◌&&◌}
 use mathlib.Core.List.{List, [], ◌∷◌, ◌++◌}
 use native.Mathlib.Nat.{mul-add, mul_assoc, pow-suc, mul-le-mul_left, pow-le-pow_right, sub-zero}
 use native.Mathlib.Numerals.{add-one}
@@ -14,6 +14,7 @@ use lib.ListN.{length, take, drop, get_or, set, replicate, length-append, length
 use lib.Seq.{drop-cons, drop-set-lt, take-suc-set, set_split, length-take-le, append_snoc}
 use borrow.Author.Tests.{ltb-true, ltb-false, lt-ltb, le-ltb, le-leb, lt-leb}
 use Rattle.numbers.specs.LittleEndian.{Bytes}
+use Rattle.numbers.proofs.Tests.{both}
 use Rattle.limits.specs.Refusals.{unvinting, permitted}
 use Rattle.limits.specs.Limits.{vint_limit}
 use Rattle.std.specs.Prelude.{Err}
@@ -260,6 +261,17 @@ behind-grouped s u i b (ended v k) =
     let y : i + suc k ≡ suc i + k = omega arith in
     rw (x, y)
 behind-grouped s u i b unended = refl
+
+-- the test of its two bounds, of w bytes and of what is there
+pub goes_on : (at w l : ℕ) → (ltb at w && ltb at l) ≡ true → (at < w) × (at < l)
+goes_on at w l e = let p = both (ltb at w) (ltb at l) e in (ltb-true at w p.0, ltb-true at l p.1)
+
+pub stops : (at w l : ℕ) → (ltb at w && ltb at l) ≡ false → (w ≤ at) ⊎ (l ≤ at)
+stops at w l e = go (ltb at w) refl e
+  where
+    go : (t : Bool) → ltb at w ≡ t → (t && ltb at l) ≡ false → (w ≤ at) ⊎ (l ≤ at)
+    go true x e = inr (ltb-false at l e)
+    go false x e = inl (ltb-false at w x)
 
 -- some bytes are taken, none with the top bit: what is taken in all is their sum, with the unit times what is taken
 -- from there
