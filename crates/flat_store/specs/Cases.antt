@@ -31,15 +31,16 @@ unfolding lookup_of
 said-looked = (refl, refl, refl, refl, refl)
 
 -- RULES AH10. An entry that overruns the used count in its bytes, its byte length, its name or its name length, and
--- behind a match
+-- behind a match; a reading behind a used count above the buffer
 pub said_damaged : (said_lookup (lookup_of run 23 lane_b) ≡ refused 4 [])
     × (said_lookup (lookup_of run 20 lane_b) ≡ refused 4 [])
     × (said_lookup (lookup_of run 18 lane_b) ≡ refused 4 [])
     × (said_lookup (lookup_of run 17 lane_b) ≡ refused 4 [])
     × (said_length (length_of run 10 lane_a) ≡ refused 4 [])
     × (said_read (read_of run 8 lane_a []).answer ≡ refused 4 [])
+    × (said_read (read_of run 25 lane_a []).answer ≡ refused 2 [])
 unfolding lookup_of length_of read_of
-said_damaged = (refl, refl, refl, refl, refl, refl)
+said_damaged = (refl, refl, refl, refl, refl, refl, refl)
 
 -- RULES AH10.
 pub said_answered : (said_length (length_of run 24 lane_a) ≡ answered a_length (3 ∷ []))
