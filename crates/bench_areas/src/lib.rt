@@ -139,8 +139,8 @@ fn dump(seen: Seen<'_>, line: &[u8], out: &impl Print) -> Result<(), Unanswered>
     let [place, count] = words::numbers_from::<2>(line, 2)?;
     match area {
         Area::Table => println!(out; "{}", Decimals(part(seen.table, place, count)?))?,
-        Area::Keys => println!(out; "{}", Hex(part(seen.keys, place, count)?))?,
-        Area::Lists => println!(out; "{}", Hex(part(seen.lists, place, count)?))?,
+        Area::Keys => Hex(part(seen.keys, place, count)?).line(out)?,
+        Area::Lists => Hex(part(seen.lists, place, count)?).line(out)?,
     }
     Ok(())
 }

@@ -28,7 +28,7 @@ pub enum Command {
 }
 
 // The flat store: its memory, how much of that is the lent buffer, and how much of the buffer is used.
-#[derive(Drop)]
+#[derive(Clone, Copy)]
 pub struct Flat<const N: usize> {
     pub memory: [u8; N],
     pub lent: usize,
@@ -57,17 +57,21 @@ fn say_reading(
     output: &[u8],
     out: &impl Print,
 ) -> io::Result<()> {
-    let kept = say::kept(output, say::FILLER);
     match reading {
-        Ok(Some(n)) => println!(out; "reading {n}{}", Written::of(n as usize, output)),
-        Ok(None) => println!(out; "absent{kept}"),
+        Ok(Some(n)) => Written::of(n as usize, output).line(format_args!("reading {n}"), out),
+        Ok(None) => println!(out; "absent{}", say::kept(output, say::FILLER)),
         Err(NotRead::TooShort(needed)) => {
             println!(out;
-                "refused {} {needed}{kept}",
-                Refusal::OutputTooShort.number()
+                "refused {} {needed}{}",
+                Refusal::OutputTooShort.number(),
+                say::kept(output, say::FILLER)
             )
         }
-        Err(NotRead::Refused(why)) => println!(out; "refused {}{kept}", why.number()),
+        Err(NotRead::Refused(why)) => println!(out;
+            "refused {}{}",
+            why.number(),
+            say::kept(output, say::FILLER)
+        ),
     }
 }
 
@@ -167,7 +171,7 @@ impl<const N: usize> Flat<N> {
     // `flat-dump PLACE COUNT`
     fn dump(&self, line: &[u8], out: &impl Print) -> Result<(), Unanswered> {
         let [place, count] = words::numbers_at::<2>(line)?;
-        Ok(println!(out; "{}", Hex(part(self.buffer(), place, count)?))?)
+        Ok(Hex(part(self.buffer(), place, count)?).line(out)?)
     }
 
     // `flat-sum`

@@ -136,7 +136,7 @@ fn get(
     let output = room_at(line, 5, &mut scratch.output, Fault::OutputTooLong)?;
     let arena = arena_at(line, 6)?;
     match arena.read(&lists[..length], place, output) {
-        Ok(()) => println!(out; "{}", Hex(output))?,
+        Ok(()) => Hex(output).line(out)?,
         Err(why) => say::refused(out, why.number())?,
     }
     Ok(())

@@ -10,7 +10,7 @@ use text::words;
 fn say_pieced(pieced: Pieced, output: &[u8], out: &impl Print) -> io::Result<()> {
     match pieced {
         Pieced::Absent => println!(out; "absent{}", say::kept(output, say::FILLER)),
-        Pieced::Given(n) => println!(out; "piece {n}{}", Written::of(n as usize, output)),
+        Pieced::Given(n) => Written::of(n as usize, output).line(format_args!("piece {n}"), out),
         // 8 tells the lane's length beside its number
         Pieced::Refused(8, told) => {
             println!(out; "refused 8 {told}{}", say::kept(output, say::FILLER))

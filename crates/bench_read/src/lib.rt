@@ -100,10 +100,8 @@ fn block(
 fn say_reading(answer: Answer, output: &[u8], out: &impl Print) -> io::Result<()> {
     let said = Said(answer);
     match answer {
-        Answer::Found(Outcome::Reading(n)) => {
-            println!(out; "{said}{}", Written::of(n as usize, output))
-        }
-        Answer::Found(_) => println!(out; "{said}{}", Written::of(0, output)),
+        Answer::Found(Outcome::Reading(n)) => { Written::of(n as usize, output).line(said, out) }
+        Answer::Found(_) => Written::of(0, output).line(said, out),
         _ => println!(out; "{said}{}", say::kept(output, say::FILLER)),
     }
 }
@@ -134,7 +132,7 @@ fn show(seen: Seen<'_>, line: &[u8], out: &impl Print) -> Result<(), Unanswered>
         lists,
     } = seen;
     let shown = store_look::lane::show_block(state, table, keys, lists, place, n as usize);
-    Ok(println!(out; "{}", Hex(shown))?)
+    Ok(Hex(shown).line(out)?)
 }
 
 fn say_listed(listed: Listed, out: &impl Print) -> io::Result<()> {

@@ -29,7 +29,7 @@ fn say_reported(
     out: &impl Print,
 ) -> io::Result<()> {
     match reported {
-        Ok(n) => println!(out; "report {n}{}", Written::of(n as usize, output)),
+        Ok(n) => Written::of(n as usize, output).line(format_args!("report {n}"), out),
         Err(why) => {
             match why {
                 Unwritten::Refused(refusal) => print!(out; "refused {}", refusal.number())?,

@@ -5,7 +5,7 @@
 #![tactic(auto)]
 
 use lending::Lend;
-use say::Unanswered;
+use say::{Passing, Unanswered};
 use script::lines::Lines;
 use std::io;
 use text::words;
@@ -28,14 +28,16 @@ fn tell(out: &impl Print, line: &[u8]) -> Result<(), Unanswered> {
 }
 
 // All rows of standard input; an empty line is none.
-fn run<R: Input + Print>(rt: &R, line: &mut [u8]) -> io::Result<()> {
-    let mut lines = Lines::new(rt.reader(), line);
+fn run<R: Input + Print>(rt: &R, area: &mut [u8]) -> io::Result<()> {
+    let out = &Passing(rt);
+    let mut input = rt.reader();
+    let mut lines = Lines::new();
     for _ in 0..u64::MAX {
-        let Some(line) = lines.next() else {
+        let Some(line) = lines.next(&mut input, area) else {
             break;
         };
         if !line.bytes.is_empty() {
-            say::answered(rt, tell(rt, line.bytes))?;
+            say::answered(out, tell(out, line.bytes))?;
         }
     }
     Ok(())
@@ -43,6 +45,6 @@ fn run<R: Input + Print>(rt: &R, line: &mut [u8]) -> io::Result<()> {
 
 fn main(rt: HostRuntime) {
     let mut line = [0; 65536];
-    // where nothing can be printed, nobody is left to tell
+    // it fails where a pipe is closed, and nobody is left to tell
     let _ = run(&rt, &mut line);
 }

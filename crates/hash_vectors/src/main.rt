@@ -1,9 +1,10 @@
 // Runs the outside hash vectors: rows `SEED LENGTH A B C HASH` on standard input, decimal, one space apart, a row a
 // line; the key's byte i is (A + B * i + C * (i / 256)) mod 256. It prints each row whose hash differs, then how many
 // rows it read and how many differed. docs/VECTORS.md says where the rows come from. It promises only that it ends and
-// stays in bounds. It uses murmurhash2, text and script.
+// stays in bounds. It uses murmurhash2, text, say and script.
 #![tactic(auto)]
 
+use say::Passing;
 use script::lines::Lines;
 use std::io;
 use text::words;
@@ -60,27 +61,29 @@ fn one_more(n: u64) -> u64 {
 }
 
 // All rows of standard input; an empty line is none.
-fn run<R: Input + Print>(rt: &R, line: &mut [u8], key: &mut [u8]) -> io::Result<()> {
-    let mut lines = Lines::new(rt.reader(), line);
+fn run<R: Input + Print>(rt: &R, area: &mut [u8], key: &mut [u8]) -> io::Result<()> {
+    let out = &Passing(rt);
+    let mut input = rt.reader();
+    let mut lines = Lines::new();
     let mut rows = 0;
     let mut wrong = 0;
     for _ in 0..u64::MAX {
-        let Some(line) = lines.next() else {
+        let Some(line) = lines.next(&mut input, area) else {
             break;
         };
         if !line.bytes.is_empty() {
             rows = one_more(rows);
-            if is_wrong(rt, line.bytes, key)? {
+            if is_wrong(out, line.bytes, key)? {
                 wrong = one_more(wrong);
             }
         }
     }
-    println!(rt; "{rows} rows, {wrong} differ")
+    println!(out; "{rows} rows, {wrong} differ")
 }
 
 fn main(rt: HostRuntime) {
     let mut line = [0; 65536];
     let mut key = [0; 65536];
-    // where nothing can be printed, nobody is left to tell
+    // it fails where a pipe is closed, and nobody is left to tell
     let _ = run(&rt, &mut line, &mut key);
 }

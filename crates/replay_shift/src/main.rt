@@ -10,7 +10,7 @@
 use bench_areas::{Lent, Scratch};
 use bench_lent::Store;
 use limits::Refusal;
-use say::Unanswered;
+use say::{Passing, Unanswered};
 use script::lines::{Line, Lines};
 use script::rows;
 use std::io;
@@ -126,12 +126,14 @@ impl Shift {
 
 // Plays all of standard input.
 fn run<R: Input + Print>(rt: &R, shift: &mut Shift, area: &mut [u8]) -> io::Result<()> {
-    let mut lines = Lines::new(rt.reader(), area);
+    let out = &Passing(rt);
+    let mut input = rt.reader();
+    let mut lines = Lines::new();
     for _ in 0..u64::MAX {
-        let Some(line) = lines.next() else {
+        let Some(line) = lines.next(&mut input, area) else {
             break;
         };
-        say::answered(rt, shift.play_line(line, rt))?;
+        say::answered(out, shift.play_line(line, out))?;
     }
     Ok(())
 }
@@ -155,6 +157,6 @@ fn main(rt: HostRuntime) {
         },
     };
     let mut line = [0; 65536];
-    // where nothing can be printed, nobody is left to tell
+    // it fails where a pipe is closed, and nobody is left to tell
     let _ = run(&rt, &mut shift, &mut line);
 }

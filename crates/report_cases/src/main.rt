@@ -1,8 +1,9 @@
 // Feeds the report's reader many texts in one run: on standard input a text's length in decimal, a newline and its
 // bytes, again and again; a line for each, as report_check prints it. oracle/report.py made the texts that the gate
-// feeds it, and the answers. It promises only that it ends and stays in bounds.
+// feeds it, and the answers. It promises only that it ends and stays in bounds. It uses say and report_say.
 #![tactic(auto)]
 
+use say::Passing;
 use std::io;
 use std::io::Read;
 
@@ -43,18 +44,19 @@ fn one_text<R: Read>(out: &impl Print, input: &mut R, area: &mut [u8], n: u64) -
 }
 
 fn run<R: Input + Print>(rt: &R, area: &mut [u8]) -> io::Result<()> {
+    let out = &Passing(rt);
     let mut input = rt.reader();
     for _ in 0..MOST_TEXTS {
         let Some(n) = next_size(&mut input) else {
             break;
         };
-        one_text(rt, &mut input, area, n)?;
+        one_text(out, &mut input, area, n)?;
     }
     Ok(())
 }
 
 fn main(rt: HostRuntime) {
     let mut area = [0; 65536];
-    // where nothing can be printed, nobody is left to tell
+    // it fails where a pipe is closed, and nobody is left to tell
     let _ = run(&rt, &mut area);
 }

@@ -1,10 +1,12 @@
 // Document 02's two worked reports, written by the writer from a store of its own: an empty one, then one with lane A
 // and the bytes 1, 2, 3. Each is read back by the reader, lane by lane, and asked for again with too short an output.
-// It promises only that it ends and stays in bounds; oracle/report.py made the text that it is held to.
+// It promises only that it ends and stays in bounds; oracle/report.py made the text that it is held to. It uses limits,
+// memory_arena and store_state (for the state), store_create, store_append, report_read, report and say.
 #![tactic(auto)]
 
 use limits::Refusal;
 use report::Unwritten;
+use say::Passing;
 use std::io;
 use store_append::Appended;
 use store_state::State;
@@ -109,6 +111,12 @@ fn main(rt: HostRuntime) {
     let mut keys = [7; 64];
     let mut lists = [7; 64];
     let mut output = [0; 256];
-    // where nothing can be printed, nobody is left to tell
-    let _ = play(&rt, &mut table, &mut keys, &mut lists, &mut output);
+    // it fails where a pipe is closed, and nobody is left to tell
+    let _ = play(
+        &Passing(&rt),
+        &mut table,
+        &mut keys,
+        &mut lists,
+        &mut output,
+    );
 }

@@ -1,12 +1,28 @@
 // How bytes, words and outputs are written.
-use std::fmt;
+use crate::many::write_pairs;
+use std::{fmt, io};
 
 // What an output's bytes are before a call.
 pub const FILLER: u8 = 0xee;
 
+// The most bytes that a line shows by its `Display`. Of more the formatter takes longer than the two calls more that it
+// is to write them by themselves.
+const FEW: usize = 32;
+
 // Bytes as hex pairs, or `-` for none.
 #[derive(Clone, Copy)]
 pub struct Hex<'a>(pub &'a [u8]);
+
+impl Hex<'_> {
+    // Prints them as a line.
+    pub fn line(self, out: &impl Print) -> io::Result<()> {
+        if self.0.len() <= FEW {
+            return println!(out; "{}", self);
+        }
+        write_pairs(self.0, out)?;
+        println!(out)
+    }
+}
 
 impl fmt::Display for Hex<'_> {
     fn fmt<W: fmt::Write>(&self, f: &mut fmt::Formatter<W>) -> fmt::Result {
@@ -75,6 +91,16 @@ impl<'a> Written<'a> {
     pub fn of(n: usize, output: &'a [u8]) -> Written<'a> {
         let (front, behind) = output.split_at(n.min(output.len()));
         Written { front, behind }
+    }
+
+    // Prints it as a line, behind what was answered.
+    pub fn line(self, answer: impl fmt::Display + Drop, out: &impl Print) -> io::Result<()> {
+        if self.front.len() <= FEW {
+            return println!(out; "{answer}{self}");
+        }
+        print!(out; "{answer} ")?;
+        write_pairs(self.front, out)?;
+        out.println(kept(self.behind, FILLER))
     }
 }
 

@@ -10,12 +10,10 @@ pub struct Line<'l> {
     pub is_long: bool,
 }
 
-// The lines of an input, one at a time in the lent area. A program goes over them by `for _ in 0..u64::MAX`, since a
-// loop has to end and nothing says that an input does.
-#[derive(Drop)]
-pub struct Lines<'a, R: BufRead> {
-    input: R,
-    area: &'a mut [u8],
+// What is known between two lines of an input. A program goes over them by `for _ in 0..u64::MAX`, since a loop has to
+// end and nothing says that an input does.
+#[derive(Clone, Copy)]
+pub struct Lines {
     // where the input is at its end, no more of it is asked for: a person who types says so once
     is_over: bool,
 }
@@ -27,32 +25,29 @@ fn byte_of<R: BufRead>(input: &mut R) -> Option<u8> {
     Some(b)
 }
 
-impl<'a, R: BufRead> Lines<'a, R> {
-    pub fn new(input: R, area: &'a mut [u8]) -> Lines<'a, R> {
-        Lines {
-            input,
-            area,
-            is_over: false,
-        }
+impl Lines {
+    // Before the first line.
+    pub fn new() -> Lines {
+        Lines { is_over: false }
     }
 
-    // The next line; a last one that lacks its end too, unless it is empty.
-    pub fn next(&mut self) -> Option<Line<'_>> {
+    // The next line of the input, in the lent area; a last one that lacks its end too, unless it is empty.
+    pub fn next<'l, R: BufRead>(&mut self, input: &mut R, area: &'l mut [u8]) -> Option<Line<'l>> {
         if self.is_over {
             return None;
         }
         let mut held = 0;
         let mut is_long = false;
         for _ in 0..u64::MAX {
-            let Some(b) = byte_of(&mut self.input) else {
+            let Some(b) = byte_of(input) else {
                 self.is_over = true;
                 break;
             };
             if b == b'\n' {
                 break;
             }
-            if held < self.area.len() {
-                self.area[held] = b;
+            if held < area.len() {
+                area[held] = b;
                 held += 1;
             } else {
                 is_long = true;
@@ -62,7 +57,7 @@ impl<'a, R: BufRead> Lines<'a, R> {
             return None;
         }
         Some(Line {
-            bytes: &self.area[..held],
+            bytes: &area[..held],
             is_long,
         })
     }

@@ -50,6 +50,6 @@ fn main(rt: HostRuntime) {
         },
     };
     let mut line = [0; 65536];
-    // where nothing can be printed, nobody is left to tell
+    // it fails where a pipe is closed, and nobody is left to tell
     let _ = play::run(&rt, &mut bench, &mut line);
 }

@@ -1,7 +1,7 @@
 // The lines, played on the testbench's stores.
 use crate::commands::{self, Command, TABLE};
 use bench_both::Bench;
-use say::Unanswered;
+use say::{Passing, Unanswered};
 use script::lines::{Line, Lines};
 use script::rows;
 use std::io;
@@ -33,12 +33,14 @@ fn play_line(bench: &mut Bench, line: Line<'_>, out: &impl Print) -> Result<(), 
 
 // Plays all of standard input.
 pub fn run<R: Input + Print>(rt: &R, bench: &mut Bench, area: &mut [u8]) -> io::Result<()> {
-    let mut lines = Lines::new(rt.reader(), area);
+    let out = &Passing(rt);
+    let mut input = rt.reader();
+    let mut lines = Lines::new();
     for _ in 0..u64::MAX {
-        let Some(line) = lines.next() else {
+        let Some(line) = lines.next(&mut input, area) else {
             break;
         };
-        say::answered(rt, play_line(bench, line, rt))?;
+        say::answered(out, play_line(bench, line, out))?;
     }
     Ok(())
 }

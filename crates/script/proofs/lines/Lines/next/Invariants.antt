@@ -3,4 +3,4 @@ use Rattle.std.proofs.Common.{◌≤◌, length}
 use Rattle.script.proofs.lines.Lines.next.Given as goal
 
 abbrev pub invariant-loop : goal.invariant-loop
-invariant-loop g l = l.held ≤ length l.self.area.now
+invariant-loop g l = l.held ≤ length l.area
